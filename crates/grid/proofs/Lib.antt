@@ -1,0 +1,5 @@
+pub mod Every
+mod Tables
+pub mod Curve
+pub mod Places
+pub mod Sightings

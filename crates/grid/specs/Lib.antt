@@ -1,0 +1,4 @@
+pub mod Units
+pub mod Places
+pub mod Curve
+pub mod Sightings

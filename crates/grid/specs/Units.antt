@@ -1,0 +1,40 @@
+-- The numbers of document 01, "Units and the places on the grid", each named once. Positions are centimetres, speeds centimetres per
+-- second, times seconds.
+-- Assumes nothing.
+use Prim.Native.Nat.{ℕ, _-_, _*_}
+
+-- columns on the grid, and rows
+abbrev pub side : ℕ
+side = 32
+
+-- 2 ^ order is the side
+abbrev pub order : ℕ
+order = 5
+
+-- cells on the grid
+abbrev pub cells : ℕ
+cells = 1024
+
+-- the width and the height of a cell, in centimetres
+abbrev pub cellSize : ℕ
+cellSize = 262144
+
+-- the greatest position of a report, in centimetres: the last one of the last cell
+abbrev pub lastPosition : ℕ
+lastPosition = 8388607
+
+-- the greatest size of a speed, in centimetres per second
+abbrev pub speedLimit : ℕ
+speedLimit = 500
+
+-- the last time, in seconds
+abbrev pub lastTime : ℕ
+lastTime = 999999999
+
+-- the last id
+abbrev pub lastId : ℕ
+lastId = 65535
+
+-- the most floats held
+abbrev pub capacity : ℕ
+capacity = 1024

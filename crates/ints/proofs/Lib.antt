@@ -1,0 +1,4 @@
+pub mod Parts
+pub mod Least
+pub mod Machine
+pub mod Truth
