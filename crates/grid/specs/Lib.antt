@@ -1,4 +1,6 @@
 pub mod Units
 pub mod Places
+pub mod Reports
+pub mod Small
 pub mod Curve
 pub mod Sightings

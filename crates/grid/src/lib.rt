@@ -2,10 +2,13 @@
 // Positions are centimetres, speeds centimetres per second, times seconds.
 ghost use mathlib.Core.Path.{_≡_};
 ghost use Prim.Native.Nat.{_<_, _≤_, _^_};
-ghost use lib.IntN.{natAbs};
+ghost use lib.IntN.{natAbs, _-ℤ_};
 ghost use Rattle.grid.specs.Units.{cells};
 ghost use Rattle.grid.specs.Places.{positionAfter, columnOf, rowOf, cellOf, OnGrid};
 ghost use Rattle.grid.specs.Curve.{curveNumber, cellOfNumber};
+ghost use Rattle.grid.specs.Reports.{inRange, xAt, yAt, cellAtTime, inRect, isListed};
+ghost use Rattle.grid.specs.Small.{SmallAxis, SmallReport};
+ghost use Rattle.ints.specs.Whole.{between};
 
 mod cell_table;
 mod curve_table;
@@ -28,6 +31,28 @@ pub const CELL_SIZE: usize = 262144;
 pub struct Cell {
     pub column: usize,
     pub row: usize,
+}
+
+// From low to high along one axis, both included.
+pub struct Range {
+    pub low: i64,
+    pub high: i64,
+}
+
+// A rectangle.
+pub struct Rect {
+    pub x: Range,
+    pub y: Range,
+}
+
+// What a float sent: at time t it was at (x, y) and drifted at (vx, vy).
+pub struct Report {
+    pub id: i32,
+    pub t: i32,
+    pub x: i32,
+    pub y: i32,
+    pub vx: i32,
+    pub vy: i32,
 }
 
 // Where a float is along one axis, `elapsed` seconds after it was at x.
@@ -84,5 +109,67 @@ pub fn cell_of_number(n: usize) -> Cell
     Cell {
         column: place % SIDE,
         row: place / SIDE,
+    }
+}
+
+fn wide_signed(z: i32) -> i64
+    ensures { λ r. ⌜ r ≡ z ⌝ }
+{
+    z as i64
+}
+
+impl Range {
+    pub fn holds(self, z: i64) -> bool
+        ensures { λ r. ⌜ r ≡ between (self .low) (self .high) z ⌝ }
+    {
+        self.low <= z && z <= self.high
+    }
+}
+
+impl Rect {
+    pub fn holds(self, x: i64, y: i64) -> bool
+        ensures { λ r. ⌜ r ≡ inRect self x y ⌝ }
+    {
+        self.x.holds(x) && self.y.holds(y)
+    }
+}
+
+// Where a float is along one axis at time s, reported at time t at x with the speed v.
+fn position_at(x: i32, v: i32, t: i32, s: i64) -> i64
+    requires { ⌜ SmallAxis x v t s ⌝ }
+    ensures { λ r. ⌜ r ≡ positionAfter x v (s -ℤ t) ⌝ }
+{
+    position_after(wide_signed(x), wide_signed(v), s - wide_signed(t))
+}
+
+impl Report {
+    pub fn x_at(self, s: i64) -> i64
+        requires { ⌜ SmallReport self s ⌝ }
+        ensures { λ r. ⌜ r ≡ xAt self s ⌝ }
+    {
+        position_at(self.x, self.vx, self.t, s)
+    }
+
+    pub fn y_at(self, s: i64) -> i64
+        requires { ⌜ SmallReport self s ⌝ }
+        ensures { λ r. ⌜ r ≡ yAt self s ⌝ }
+    {
+        position_at(self.y, self.vy, self.t, s)
+    }
+
+    // The cell of its position at time s.
+    pub fn cell_at(self, s: i64) -> Cell
+        requires { ⌜ SmallReport self s ⌝ }
+        ensures { λ r. ⌜ r ≡ cellAtTime self s ⌝ }
+    {
+        cell_of(self.x_at(s), self.y_at(s))
+    }
+
+    // Whether an ask for a rectangle and a time lists the float.
+    pub fn is_listed(self, q: Rect, asked: i64) -> bool
+        requires { ⌜ SmallReport self asked ⌝ }
+        ensures { λ r. ⌜ r ≡ isListed q asked self ⌝ }
+    {
+        q.holds(self.x_at(asked), self.y_at(asked))
     }
 }
