@@ -12,18 +12,9 @@ use lib.IntN.{ℤ, pos, negsuc, negℤ, subℕ, _+ℤ_, _-ℤ_, _*ℤ_, natAbs}
 use lib.Signed.{mag, leZ, ltZ, nonNeg}
 use borrow.Author.Tests.{ltb-true, ltb-false, leb-true, leb-false, le-leb, lt-leb, lt-ltb, le-ltb}
 use Rattle.ints.specs.Whole.{floorZ, raised-or-lowered}
+pub use Rattle.ints.specs.Whole.{up, down}
 
 -- ---- the two parts
-
--- z where z is above 0, else 0
-abbrev pub up : ℤ → ℕ
-up (pos n) = n
-up (negsuc n) = 0
-
--- -z where z is below 0, else 0
-abbrev pub down : ℤ → ℕ
-down (pos n) = 0
-down (negsuc n) = suc n
 
 pub one-part : (z : ℤ) → min (up z) (down z) ≡ 0
 one-part (pos n) = omega arith
