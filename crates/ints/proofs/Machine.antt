@@ -3,7 +3,7 @@
 -- (`mag z < 2 ^ hbits w`: the range of a parameter, a field, an element or a result), so that `search` finds them.
 -- Assumes nothing.
 use mathlib.Core.Path.{_≡_, sym, ap, _∙_, subst}
-use mathlib.Core.Bool.{Bool, true, false, _&&_}
+use mathlib.Core.Bool.{Bool, true, false, _&&_, _||_}
 use Prim.Native.Nat.{ℕ, _+_, _≤_, _<_, _^_, min}
 use native.Mathlib.Omega.{arith}
 use lib.Dec.{T, leb}
@@ -103,6 +103,13 @@ both r s p q t e h = simp (sym e ∙ t, sym h)
 
 pub neither : (r p q : Bool) → r ≡ false → r ≡ p → r ≡ p && q
 neither r p q t e = simp (sym e ∙ t, t)
+
+-- two tests joined by ||, of which the first passed (either) or failed (otherwise)
+pub either : (r p q : Bool) → r ≡ true → r ≡ p → r ≡ p || q
+either r p q t e = simp (sym e ∙ t, t)
+
+pub otherwise : (r s p q : Bool) → r ≡ false → r ≡ p → s ≡ q → s ≡ p || q
+otherwise r s p q t e h = simp (sym e ∙ t, sym h)
 
 -- ---- tests in the code, of numbers in locals or fields
 

@@ -1,0 +1,38 @@
+-- P1 to P12 hold of the definitions jointly: one tabled fact, which antt computes. The listing of document 01 gives the document's answers, and
+-- so do a worked list with each refusal from 3 on, and a full ledger.
+-- Assumes nothing.
+use mathlib.Core.Path.{_≡_, refl}
+use mathlib.Core.List.{List, map}
+use lib.IntN.{pos}
+use Rattle.ints.specs.Whole.{minZ, maxZ, eqZ}
+use Rattle.grid.specs.Places.{columnOf, cellSpan}
+use Rattle.grid.specs.Curve.{numberAt}
+use Rattle.grid.specs.Reports.{inRange, xAt, yAt, inRect, isListed}
+use Rattle.grid.specs.Sightings.{Sighting}
+use Rattle.grid.specs.Sightings as Grid
+use Rattle.rows.specs.Row.{joined, sameRow, isEmpty, boundsOf}
+use Rattle.rows.specs.Phases.{phaseOf, referenceTime, isLive, livePhases}
+use Rattle.methods.specs.Reach.{expandedRange, expandedRect, blockOf, cellsOfRow, cellsOfRows, cellsOf, movedSpan, meets, movedCellMeets}
+use Rattle.methods.specs.Methods.{boundsIn, expandedBlock, iterated, reached, choice}
+use Rattle.ledger.specs.Refusals.{firstToFail, isRectangle}
+use Rattle.ledger.specs.Machine.{opened, steppedHeld, newPlacements, livePlacements, stepped, isHeld, without, withReport, withoutId, speedsPlaced, rowsIn, listedHeld, isUseful, usefulCells, putInOrder, idsInOrder, summed}
+use Rattle.ledger.specs.Calls.{answerTo, changedBy, idsOf, next, replyTo, replies, after}
+use Rattle.ledger.specs.Sightings.{sightings, ledgerP11, ledgerP12, phasesHeld, columnsPlaced, listing, listingSays, sent, answers, refused, refusedSays, crowd}
+use Rattle.ledger.specs.Calls.{add}
+use Rattle.ledger.specs.declared.Answer.the-variants.{Accepted, Full}
+
+pub all-as-said : map (λ (s : Sighting). s .given) sightings ≡ map (λ (s : Sighting). s .said) sightings
+unfolding sightings Grid.sightings ledgerP11 ledgerP12 phasesHeld columnsPlaced columnOf cellSpan numberAt minZ maxZ eqZ joined sameRow isEmpty boundsOf expandedRange expandedRect blockOf cellsOfRow cellsOfRows cellsOf movedSpan meets movedCellMeets boundsIn expandedBlock iterated reached choice inRange xAt yAt inRect isListed phaseOf referenceTime isLive livePhases firstToFail isRectangle steppedHeld newPlacements livePlacements stepped isHeld without withReport withoutId speedsPlaced rowsIn listedHeld isUseful usefulCells putInOrder idsInOrder summed answerTo changedBy idsOf next replyTo replies after
+all-as-said = refl
+
+pub listing-as-said : replies (opened (pos 0)) listing ≡ listingSays
+unfolding listing listingSays columnOf cellSpan numberAt minZ maxZ eqZ joined sameRow isEmpty boundsOf expandedRange expandedRect blockOf cellsOfRow cellsOfRows cellsOf movedSpan meets movedCellMeets boundsIn expandedBlock iterated reached choice inRange xAt yAt inRect isListed phaseOf referenceTime isLive livePhases firstToFail isRectangle steppedHeld newPlacements livePlacements stepped isHeld without withReport withoutId speedsPlaced rowsIn listedHeld isUseful usefulCells putInOrder idsInOrder summed answerTo changedBy idsOf next replyTo replies after
+listing-as-said = refl
+
+pub refused-as-said : answers (opened (pos 3600)) refused ≡ refusedSays
+unfolding answers refused refusedSays columnOf cellSpan numberAt minZ maxZ eqZ joined sameRow isEmpty boundsOf expandedRange expandedRect blockOf cellsOfRow cellsOfRows cellsOf movedSpan meets movedCellMeets boundsIn expandedBlock iterated reached choice inRange xAt yAt inRect isListed phaseOf referenceTime isLive livePhases firstToFail isRectangle steppedHeld newPlacements livePlacements stepped isHeld without withReport withoutId speedsPlaced rowsIn listedHeld isUseful usefulCells putInOrder idsInOrder summed answerTo changedBy idsOf next replyTo replies after
+refused-as-said = refl
+
+pub full-as-said : (answerTo (crowd 1024) (add (sent 2 0 0 0 (pos 0) (pos 0))) ≡ Full) × (answerTo (crowd 1023) (add (sent 2 0 0 0 (pos 0) (pos 0))) ≡ Accepted 1024)
+unfolding columnOf cellSpan numberAt minZ maxZ eqZ joined sameRow isEmpty boundsOf expandedRange expandedRect blockOf cellsOfRow cellsOfRows cellsOf movedSpan meets movedCellMeets boundsIn expandedBlock iterated reached choice inRange xAt yAt inRect isListed phaseOf referenceTime isLive livePhases firstToFail isRectangle steppedHeld newPlacements livePlacements stepped isHeld without withReport withoutId speedsPlaced rowsIn listedHeld isUseful usefulCells putInOrder idsInOrder summed answerTo changedBy idsOf next replyTo replies after
+full-as-said = (refl, refl)

@@ -1,0 +1,5 @@
+pub mod Answers
+pub mod Refusals
+pub mod Machine
+pub mod Calls
+pub mod Sightings

@@ -1,0 +1,170 @@
+-- The plain ledger: document 01, "The plain ledger". It keeps the time, the held reports and the placements, and knows nothing of buffers, keys
+-- or slots.
+-- Assumes nothing.
+use mathlib.Core.Bool.{Bool, true, false, _&&_, _||_, cond}
+use mathlib.Core.List.{List, [], _∷_, _++_, map}
+use Prim.Native.Nat.{ℕ, _+_}
+use lib.Dec.{eqb, leb}
+use lib.IntN.{ℤ}
+use lib.ListN.{length}
+use Rattle.ints.specs.Whole.{eqZ, up}
+use Rattle.grid.specs.Reports.{cellAtTime, isListed}
+use Rattle.grid.specs.declared.Cell.{Cell}
+use Rattle.grid.specs.declared.Rect.{Rect}
+use Rattle.grid.specs.declared.Report.{Report}
+use Rattle.rows.specs.Row.{rowOfSpeed, boundsOf}
+use Rattle.rows.specs.Phases.{phaseOf, referenceTime, sinceReference, isLive, livePhases}
+use Rattle.rows.specs.declared.Row.{Row}
+use Rattle.methods.specs.Methods.{Rows, Choice, choice}
+
+-- a held report, and the phase in which its float is placed
+pub record Held : Type 0 where
+  pub report : Report
+  pub phase : ℕ
+
+-- a speed placed in a cell of a phase
+pub record Placement : Type 0 where
+  pub phase : ℕ
+  pub cell : Cell
+  pub vx : ℤ
+  pub vy : ℤ
+
+pub record Ledger : Type 0 where
+  pub now : ℤ
+  pub held : List Held
+  pub placements : List Placement
+
+-- where a float is placed in a phase: the cell of its position at the reference time
+abbrev pub placeIn : ℕ → Report → Cell
+placeIn p r = cellAtTime r (referenceTime p)
+
+abbrev pub placement : ℕ → Report → Placement
+placement p r = record { phase = p; cell = placeIn p r; vx = r .vx; vy = r .vy }
+
+-- open at t: that time, nothing held, no placements
+abbrev pub opened : ℤ → Ledger
+opened t = record { now = t; held = []; placements = [] }
+
+-- ---- the clock step, which clock, add, report and drop share
+
+-- a float whose phase is dead is placed in the current one
+unfoldable pub steppedHeld : ℕ → List Held → List Held
+steppedHeld c [] = []
+steppedHeld c (h ∷ hs) =
+    cond (isLive c (h .phase)) h (record { report = h .report; phase = c }) ∷ steppedHeld c hs
+
+unfoldable pub newPlacements : ℕ → List Held → List Placement
+newPlacements c [] = []
+newPlacements c (h ∷ hs) =
+    cond (isLive c (h .phase)) (newPlacements c hs) (placement c (h .report) ∷ newPlacements c hs)
+
+-- placements of dead phases go
+unfoldable pub livePlacements : ℕ → List Placement → List Placement
+livePlacements c [] = []
+livePlacements c (p ∷ ps) = cond (isLive c (p .phase)) (p ∷ livePlacements c ps) (livePlacements c ps)
+
+unfoldable pub stepped : ℤ → Ledger → Ledger
+stepped t l =
+    let c = phaseOf t in
+    record {
+      now = t;
+      held = steppedHeld c (l .held);
+      placements = livePlacements c (l .placements) ++ newPlacements c (l .held);
+    }
+
+-- ---- the changes after it
+
+unfoldable pub isHeld : ℤ → List Held → Bool
+isHeld id [] = false
+isHeld id (h ∷ hs) = eqZ (h .report .id) id || isHeld id hs
+
+unfoldable pub without : ℤ → List Held → List Held
+without id [] = []
+without id (h ∷ hs) = cond (eqZ (h .report .id) id) hs (h ∷ without id hs)
+
+-- a report placed in the current phase
+unfoldable pub withReport : Report → Ledger → Ledger
+withReport r l =
+    let c = phaseOf (l .now) in
+    record {
+      now = l .now;
+      held = record { report = r; phase = c } ∷ l .held;
+      placements = l .placements ++ placement c r ∷ [];
+    }
+
+unfoldable pub withoutId : ℤ → Ledger → Ledger
+withoutId id l = record { now = l .now; held = without id (l .held); placements = l .placements }
+
+abbrev pub added : Report → Ledger → Ledger
+added r l = withReport r (stepped (r .t) l)
+
+abbrev pub reported : Report → Ledger → Ledger
+reported r l = withReport r (withoutId (r .id) (stepped (r .t) l))
+
+abbrev pub dropped : ℤ → ℤ → Ledger → Ledger
+dropped id t l = withoutId id (stepped t l)
+
+-- ---- asks
+
+-- the speeds placed in a cell of a phase, each as a row
+unfoldable pub speedsPlaced : ℕ → Cell → List Placement → List Row
+speedsPlaced p c [] = []
+speedsPlaced p c (a ∷ more) =
+    cond
+    (eqb (a .phase) p && (eqb (a .cell .column) (c .column) && eqb (a .cell .row) (c .row)))
+    (rowOfSpeed (a .vx) (a .vy) ∷ speedsPlaced p c more)
+    (speedsPlaced p c more)
+
+-- a row is the bounds of that phase and cell's placements, empty with none
+unfoldable pub rowsIn : Ledger → ℕ → Rows
+rowsIn l p c = boundsOf (speedsPlaced p c (l .placements))
+
+-- what a method chooses in a live phase
+abbrev pub choiceIn : Ledger → ℕ → ℤ → Rect → ℕ → Choice
+choiceIn l method asked q p = choice method (rowsIn l p) q (sinceReference p asked)
+
+-- the held reports that an ask lists
+unfoldable pub listedHeld : Rect → ℤ → List Held → List Held
+listedHeld q asked [] = []
+listedHeld q asked (h ∷ hs) =
+    cond (isListed q asked (h .report)) (h ∷ listedHeld q asked hs) (listedHeld q asked hs)
+
+-- whether a listed float is placed in a cell of a phase by its held report
+unfoldable pub isUseful : ℕ → Cell → List Held → Bool
+isUseful p c [] = false
+isUseful p c (h ∷ hs) =
+    let own = placeIn p (h .report) in
+    (eqb (h .phase) p && (eqb (own .column) (c .column) && eqb (own .row) (c .row))) || isUseful p c hs
+
+-- the useful ones of some cells
+unfoldable pub usefulCells : ℕ → List Held → List Cell → ℕ
+usefulCells p listed [] = 0
+usefulCells p listed (c ∷ cs) = cond (isUseful p c listed) 1 0 + usefulCells p listed cs
+
+-- by rising number
+unfoldable pub putInOrder : ℕ → List ℕ → List ℕ
+putInOrder n [] = n ∷ []
+putInOrder n (m ∷ ms) = cond (leb n m) (n ∷ m ∷ ms) (m ∷ putInOrder n ms)
+
+unfoldable pub idsInOrder : List Held → List ℕ
+idsInOrder [] = []
+idsInOrder (h ∷ hs) = putInOrder (up (h .report .id)) (idsInOrder hs)
+
+-- summed over some phases
+unfoldable pub summed : (ℕ → ℕ) → List ℕ → ℕ
+summed f [] = 0
+summed f (p ∷ ps) = f p + summed f ps
+
+module _ (l : Ledger) (method : ℕ) (asked : ℤ) (q : Rect) where
+  abbrev pub idsListed : List ℕ
+  idsListed = idsInOrder (listedHeld q asked (l .held))
+
+  abbrev pub cellsRead : ℕ
+  cellsRead = summed (λ p. length (choiceIn l method asked q p .cells)) (livePhases (phaseOf (l .now)))
+
+  abbrev pub usefulRead : ℕ
+  usefulRead =
+      summed (λ p. usefulCells p (listedHeld q asked (l .held)) (choiceIn l method asked q p .cells)) (livePhases (phaseOf (l .now)))
+
+  abbrev pub roundsTaken : ℕ
+  roundsTaken = summed (λ p. choiceIn l method asked q p .rounds) (livePhases (phaseOf (l .now)))

@@ -1,0 +1,186 @@
+-- The cells of a block: a cell is among them exactly when its column and its row are the block's, each stands once, and they are columns × rows.
+-- The cells that the optimal method keeps are those of a list that it reaches, each once where the list has each once.
+-- Assumes nothing.
+use mathlib.Core.Path.{_≡_, refl, sym, ap, _∙_}
+use mathlib.Core.Bool.{Bool, true, false}
+use mathlib.Core.List.{List, [], _∷_, _++_, List·Memᴰ, List·Memᴰ·head, List·Memᴰ·tail, List·Memᴰ·cases-cons, List·Memᴰ·not-nil, List·Memᴰ·append-cases, Memᴰ·append-left, Memᴰ·append-right}
+use mathlib.Core.Logic.{_⊎_, inl, inr, ⊎-elim, dite, _↔_}
+use Prim.Native.Nat.{ℕ, zero, suc, _+_, _*_, _≤_, _<_}
+use native.Mathlib.Decide.{ℕ-discrete}
+use native.Mathlib.Nat.{suc-mul}
+use native.Mathlib.Omega.{arith}
+use lib.IntN.{ℤ}
+use lib.ListN.{length, length-append}
+use Rattle.grid.specs.Places.{OnGrid}
+use Rattle.grid.specs.Curve.{cell}
+use Rattle.grid.specs.declared.Cell.{Cell}
+use Rattle.methods.specs.Reach.{columnsOf, rowsOf, cellsOfRow, cellsOfRows, cellsOf, wholeGrid}
+use Rattle.methods.specs.Methods.{Rows, isReached, keepIf, reached}
+use Rattle.grid.specs.declared.Rect.{Rect}
+use Rattle.methods.specs.declared.Block.{Block}
+
+-- a cell's column and row are the block's
+pub record InBlock (b : Block) (c : Cell) : Type 0 where
+  pub from-column : b .«first_column» ≤ c .column
+  pub to-column : c .column ≤ b .«last_column»
+  pub from-row : b .«first_row» ≤ c .row
+  pub to-row : c .row ≤ b .«last_row»
+
+same-cell : {c e : Cell} → c .column ≡ e .column → c .row ≡ e .row → c ≡ e
+same-cell p q = λ i. record { column = p i; row = q i }
+
+-- ---- membership
+
+in-row : {c : Cell} (row column n : ℕ) → List·Memᴰ c (cellsOfRow row column n) → (c .row ≡ row) × (column ≤ c .column) × (c .column < column + n)
+unfolding cellsOfRow
+in-row row column zero m = absurd (List·Memᴰ·not-nil m)
+in-row {c} row column (suc n) m =
+    ⊎-elim
+    (λ (e : c ≡ cell column row). let a = ap (λ (x : Cell). x .column) e in (ap (λ (x : Cell). x .row) e, omega arith, omega arith))
+    (λ k. let r = in-row row (suc column) n k in (r .0, omega arith, omega arith))
+    (List·Memᴰ·cases-cons m)
+
+row-has : (c : Cell) (row column n : ℕ) → c .row ≡ row → column ≤ c .column → c .column < column + n → List·Memᴰ c (cellsOfRow row column n)
+unfolding cellsOfRow
+row-has c row column zero e h k = absurd (omega arith)
+row-has c row column (suc n) e h k =
+    dite (ℕ-discrete (c .column) column)
+    (λ p. List·Memᴰ·head (same-cell p e))
+    (λ p. List·Memᴰ·tail (row-has c row (suc column) n e (omega arith) (omega arith)))
+
+in-rows : {c : Cell} (b : Block) (row n : ℕ) → List·Memᴰ c (cellsOfRows b row n) → (row ≤ c .row) × (c .row < row + n) × (b .«first_column» ≤ c .column) × (c .column < b .«first_column» + columnsOf b)
+unfolding cellsOfRows
+in-rows b row zero m = absurd (List·Memᴰ·not-nil m)
+in-rows b row (suc n) m =
+    ⊎-elim
+    (λ k. let r = in-row row (b .«first_column») (columnsOf b) k in omega arith)
+    (λ k. let r = in-rows b (suc row) n k in omega arith)
+    (List·Memᴰ·append-cases (cellsOfRow row (b .«first_column») (columnsOf b)) m)
+
+rows-have : (c : Cell) (b : Block) (row n : ℕ) → row ≤ c .row → c .row < row + n → b .«first_column» ≤ c .column → c .column < b .«first_column» + columnsOf b → List·Memᴰ c (cellsOfRows b row n)
+unfolding cellsOfRows
+rows-have c b row zero h k u v = absurd (omega arith)
+rows-have c b row (suc n) h k u v =
+    dite (ℕ-discrete (c .row) row)
+    (λ p. Memᴰ·append-left _ (row-has c row (b .«first_column») (columnsOf b) p u v))
+    (λ p. Memᴰ·append-right (cellsOfRow row (b .«first_column») (columnsOf b)) (rows-have c b (suc row) n (omega arith) (omega arith) u v))
+
+pub cells-in : {c : Cell} (b : Block) → List·Memᴰ c (cellsOf b) → InBlock b c
+unfolding cellsOf
+cells-in b m = let r = in-rows b (b .«first_row») (rowsOf b) m in omega arith
+
+pub cells-have : {c : Cell} (b : Block) → InBlock b c → List·Memᴰ c (cellsOf b)
+unfolding cellsOf
+cells-have {c} b h = rows-have c b (b .«first_row») (rowsOf b) (omega arith) (omega arith) (omega arith) (omega arith)
+
+-- a cell is among a block's exactly when its column and its row are the block's
+pub cells-exactly : (b : Block) (c : Cell) → List·Memᴰ c (cellsOf b) ↔ InBlock b c
+cells-exactly b c = (cells-in b, cells-have b)
+
+pub grid-has : (c : Cell) → OnGrid c → List·Memᴰ c (cellsOf wholeGrid)
+grid-has c on = cells-have wholeGrid (omega arith)
+
+-- ---- blocks within blocks
+
+pub record BlockWithin (a b : Block) : Type 0 where
+  pub columns-from : b .«first_column» ≤ a .«first_column»
+  pub columns-to : a .«last_column» ≤ b .«last_column»
+  pub rows-from : b .«first_row» ≤ a .«first_row»
+  pub rows-to : a .«last_row» ≤ b .«last_row»
+
+pub cells-within : {a b : Block} → BlockWithin a b → {c : Cell} → List·Memᴰ c (cellsOf a) → List·Memᴰ c (cellsOf b)
+cells-within {a} {b} w m = let h = cells-in a m in cells-have b (omega arith)
+
+pub block-within-trans : {a b e : Block} → BlockWithin a b → BlockWithin b e → BlockWithin a e
+block-within-trans h k = omega arith
+
+pub within-grid-on : {b : Block} → BlockWithin b wholeGrid → {c : Cell} → List·Memᴰ c (cellsOf b) → OnGrid c
+within-grid-on {b} w m = let h = cells-in b m in omega arith
+
+-- ---- each cell once
+
+pub data Once : List Cell → Type 0 where
+  none : Once []
+  one : {c : Cell} {cs : List Cell} → (List·Memᴰ c cs → ⊥) → Once cs → Once (c ∷ cs)
+
+once-append : {s t : List Cell} → Once s → Once t → ((c : Cell) → List·Memᴰ c s → List·Memᴰ c t → ⊥) → Once (s ++ t)
+once-append none h apart = h
+once-append {t = t} (one {c} {cs} new k) h apart =
+    one (λ m. ⊎-elim new (apart c (List·Memᴰ·head refl)) (List·Memᴰ·append-cases cs m)) (once-append k h (λ e m. apart e (List·Memᴰ·tail m)))
+
+row-once : (row column n : ℕ) → Once (cellsOfRow row column n)
+unfolding cellsOfRow
+row-once row column zero = none
+row-once row column (suc n) =
+    one {c = cell column row} (λ m. let r = in-row {c = cell column row} row (suc column) n m in omega arith) (row-once row (suc column) n)
+
+rows-once : (b : Block) (row n : ℕ) → Once (cellsOfRows b row n)
+unfolding cellsOfRows
+rows-once b row zero = none
+rows-once b row (suc n) =
+    once-append (row-once row (b .«first_column») (columnsOf b)) (rows-once b (suc row) n)
+    (λ c m k. let r = in-row row (b .«first_column») (columnsOf b) m in let s = in-rows b (suc row) n k in omega arith)
+
+pub cells-once : (b : Block) → Once (cellsOf b)
+unfolding cellsOf
+cells-once b = rows-once b (b .«first_row») (rowsOf b)
+
+-- ---- how many
+
+row-length : (row column n : ℕ) → length (cellsOfRow row column n) ≡ n
+unfolding cellsOfRow
+row-length row column zero = refl
+row-length row column (suc n) = ap suc (row-length row (suc column) n)
+
+rows-length : (b : Block) (row n : ℕ) → length (cellsOfRows b row n) ≡ n * columnsOf b
+unfolding cellsOfRows
+rows-length b row zero = omega arith
+rows-length b row (suc n) =
+    let first = cellsOfRow row (b .«first_column») (columnsOf b) in
+    omega (arith, length-append first (cellsOfRows b (suc row) n), row-length row (b .«first_column») (columnsOf b), rows-length b (suc row) n, suc-mul n (columnsOf b))
+
+pub cells-length : (b : Block) → length (cellsOf b) ≡ rowsOf b * columnsOf b
+unfolding cellsOf
+cells-length b = rows-length b (b .«first_row») (rowsOf b)
+
+-- ---- the cells that are reached
+
+kept-in : {c : Cell} (t : Bool) (e : Cell) (cs : List Cell) → List·Memᴰ c (keepIf t e cs) → ((c ≡ e) × (t ≡ true)) ⊎ List·Memᴰ c cs
+kept-in true e cs m = ⊎-elim (λ p. inl (p, refl)) inr (List·Memᴰ·cases-cons m)
+kept-in false e cs m = inr m
+
+later : {c : Cell} (t : Bool) (e : Cell) (cs : List Cell) → List·Memᴰ c cs → List·Memᴰ c (keepIf t e cs)
+later true e cs m = List·Memᴰ·tail m
+later false e cs m = m
+
+module _ (rows : Rows) (q : Rect) (d : ℤ) where
+  pub reached-in : {c : Cell} (cs : List Cell) → List·Memᴰ c (reached rows q d cs) → List·Memᴰ c cs × (isReached rows q d c ≡ true)
+  unfolding reached
+  reached-in [] m = absurd (List·Memᴰ·not-nil m)
+  reached-in {c} (e ∷ cs) m =
+      ⊎-elim
+      (λ (h : (c ≡ e) × (isReached rows q d e ≡ true)). (List·Memᴰ·head (h .0), ap (isReached rows q d) (h .0) ∙ h .1))
+      (λ k. let r = reached-in cs k in (List·Memᴰ·tail (r .0), r .1))
+      (kept-in (isReached rows q d e) e (reached rows q d cs) m)
+
+  pub reached-has : {c : Cell} (cs : List Cell) → List·Memᴰ c cs → isReached rows q d c ≡ true → List·Memᴰ c (reached rows q d cs)
+  unfolding reached
+  reached-has [] m h = absurd (List·Memᴰ·not-nil m)
+  reached-has {c} (e ∷ cs) m h =
+      ⊎-elim
+      (λ (p : c ≡ e). rw (sym (ap (isReached rows q d) p) ∙ h) (List·Memᴰ·head p))
+      (λ k. later (isReached rows q d e) e (reached rows q d cs) (reached-has cs k h))
+      (List·Memᴰ·cases-cons m)
+
+  -- a cell is kept exactly when it is in the list and is reached
+  pub reached-exactly : (cs : List Cell) (c : Cell) → List·Memᴰ c (reached rows q d cs) ↔ (List·Memᴰ c cs × (isReached rows q d c ≡ true))
+  reached-exactly cs c = (reached-in cs, λ h. reached-has cs (h .0) (h .1))
+
+  pub reached-once : {cs : List Cell} → Once cs → Once (reached rows q d cs)
+  unfolding reached
+  reached-once none = none
+  reached-once (one {c} {cs} new k) = go (isReached rows q d c) (reached-once k)
+    where
+      go : (t : Bool) → Once (reached rows q d cs) → Once (keepIf t c (reached rows q d cs))
+      go true h = one (λ m. new (reached-in cs m .0)) h
+      go false h = h

@@ -1,0 +1,91 @@
+-- What a rectangle and a cell reach over d seconds at the speeds of a row: document 01, "The four ways to choose cells", the two rules "per
+-- axis" and the block of a rectangle. Positions are centimetres, speeds centimetres per second; d is the asked time less a reference time.
+-- Assumes nothing.
+use mathlib.Core.Bool.{Bool, _&&_}
+use mathlib.Core.List.{List, [], _∷_, _++_}
+use Prim.Native.Nat.{ℕ, zero, suc, _-_}
+use lib.IntN.{ℤ, pos, negsuc, _+ℤ_, _-ℤ_, _*ℤ_}
+use Rattle.grid.specs.Units.{side}
+use Rattle.grid.specs.Places.{End, Span, endless, at, columnOf, rowOf, cellSpan, notBelow, notAbove}
+use Rattle.grid.specs.Curve.{cell}
+use Rattle.grid.specs.declared.Cell.{Cell}
+use Rattle.rows.specs.declared.Row.{Row}
+use Rattle.grid.specs.declared.Range.{Range}
+use Rattle.grid.specs.declared.Rect.{Rect}
+use Rattle.methods.specs.declared.Block.{Block}
+
+-- ---- expanding a rectangle
+
+-- for d at least 0: low - greatest × d to high - least × d; for d below 0: low + least × |d| to high + greatest × |d|
+unfoldable pub expandedRange : Range → ℤ → ℤ → ℤ → Range
+expandedRange r least greatest (pos d) = record { low = r .low -ℤ greatest *ℤ pos d; high = r .high -ℤ least *ℤ pos d }
+expandedRange r least greatest (negsuc n) =
+    let size = pos (suc n) in
+    record { low = r .low +ℤ least *ℤ size; high = r .high +ℤ greatest *ℤ size }
+
+unfoldable pub expandedRect : Rect → Row → ℤ → Rect
+expandedRect q b d = record {
+  x = expandedRange (q .x) (b .«least_vx») (b .«greatest_vx») d;
+  y = expandedRange (q .y) (b .«least_vy») (b .«greatest_vy») d;
+}
+
+-- ---- blocks
+
+-- every cell from the column and row of the low corner to those of the high corner
+unfoldable pub blockOf : Rect → Block
+blockOf q = record {
+  «first_column» = columnOf (q .x .low);
+  «last_column» = columnOf (q .x .high);
+  «first_row» = rowOf (q .y .low);
+  «last_row» = rowOf (q .y .high);
+}
+
+abbrev pub wholeGrid : Block
+wholeGrid = record { «first_column» = 0; «last_column» = side - 1; «first_row» = 0; «last_row» = side - 1 }
+
+abbrev pub columnsOf : Block → ℕ
+columnsOf b = suc (b .«last_column») - b .«first_column»
+
+abbrev pub rowsOf : Block → ℕ
+rowsOf b = suc (b .«last_row») - b .«first_row»
+
+-- n cells of a row, from a column on
+unfoldable pub cellsOfRow : ℕ → ℕ → ℕ → List Cell
+cellsOfRow row column zero = []
+cellsOfRow row column (suc n) = cell column row ∷ cellsOfRow row (suc column) n
+
+-- the cells of n rows of a block, from a row on
+unfoldable pub cellsOfRows : Block → ℕ → ℕ → List Cell
+cellsOfRows b row zero = []
+cellsOfRows b row (suc n) = cellsOfRow row (b .«first_column») (columnsOf b) ++ cellsOfRows b (suc row) n
+
+-- the cells of a block, each once, row by row from the low corner
+unfoldable pub cellsOf : Block → List Cell
+cellsOf b = cellsOfRows b (b .«first_row») (rowsOf b)
+
+-- ---- moving a cell
+
+-- an end moved by a speed over so many seconds, forward and backward; an endless side stays endless
+abbrev pub forward : End → ℤ → ℕ → End
+forward endless v seconds = endless
+forward (at e) v seconds = at (e +ℤ v *ℤ pos seconds)
+
+abbrev pub backward : End → ℤ → ℕ → End
+backward endless v seconds = endless
+backward (at e) v seconds = at (e -ℤ v *ℤ pos seconds)
+
+-- for d at least 0: low + least × d to high + greatest × d; for d below 0: low - greatest × |d| to high - least × |d|
+unfoldable pub movedSpan : Span → ℤ → ℤ → ℤ → Span
+movedSpan s least greatest (pos d) = record { low = forward (s .low) least d; high = forward (s .high) greatest d }
+movedSpan s least greatest (negsuc n) =
+    record { low = backward (s .low) greatest (suc n); high = backward (s .high) least (suc n) }
+
+-- whether a span and a range share a position
+unfoldable pub meets : Span → Range → Bool
+meets s r = notBelow (s .low) (r .high) && notAbove (s .high) (r .low)
+
+-- whether a cell, moved by its row's speeds over d, meets the rectangle
+unfoldable pub movedCellMeets : Cell → Row → Rect → ℤ → Bool
+movedCellMeets c r q d =
+    meets (movedSpan (cellSpan (c .column)) (r .«least_vx») (r .«greatest_vx») d) (q .x)
+    && meets (movedSpan (cellSpan (c .row)) (r .«least_vy») (r .«greatest_vy») d) (q .y)

@@ -1,0 +1,47 @@
+-- The P cases of document 01 so far: those of the grid, and P11, which speaks of the methods.
+-- Assumes nothing.
+use mathlib.Core.Bool.{cond, _&&_}
+use mathlib.Core.List.{List, [], _∷_, _++_}
+use Prim.Native.Nat.{ℕ}
+use lib.Dec.{eqb}
+use lib.IntN.{ℤ, pos}
+use lib.ListN.{length}
+use Rattle.grid.specs.Places.{cellOf}
+use Rattle.grid.specs.Sightings.{Sighting}
+use Rattle.grid.specs.Sightings as Grid
+use Rattle.grid.specs.declared.Cell.{Cell}
+use Rattle.rows.specs.Row.{emptyRow, widened}
+use Rattle.methods.specs.Methods.{Rows, Choice, choice}
+use Rattle.grid.specs.declared.Rect.{Rect}
+
+-- rows with one float more, placed at (x, y)
+abbrev pub withFloat : Rows → ℤ → ℤ → ℤ → ℤ → Rows
+withFloat rows x y vx vy c =
+    let own = cellOf x y in
+    cond (eqb (own .column) (c .column) && eqb (own .row) (c .row)) (widened (rows c) vx vy) (rows c)
+
+-- the floats of P11, all reported at 0, the reference time of phase 0
+unfoldable pub rowsP11 : Rows
+rowsP11 =
+    withFloat
+    (withFloat (withFloat (λ c. emptyRow) (pos 2700000) (pos 500) (pos 0) (pos 0)) (pos 1100000) (pos 500) (pos 200) (pos 0))
+    (pos 5300000)
+    (pos 500)
+    (pos 500)
+    (pos 0)
+
+abbrev pub rectP11 : Rect
+rectP11 = record { x = record { low = pos 2621440; high = pos 2883583 }; y = record { low = pos 0; high = pos 1000 } }
+
+unfoldable pub choiceP11 : ℕ → Choice
+choiceP11 method = choice method rowsP11 rectP11 (pos 3600)
+
+unfoldable pub sightings : List Sighting
+sightings =
+    Grid.sightings
+    ++ record { given = length (choiceP11 0 .cells); said = 8 }
+    ∷ record { given = length (choiceP11 1 .cells); said = 4 }
+    ∷ record { given = length (choiceP11 2 .cells); said = 1 }
+    ∷ record { given = length (choiceP11 3 .cells); said = 1 }
+    ∷ record { given = choiceP11 2 .rounds; said = 2 }
+    ∷ []

@@ -1,0 +1,37 @@
+-- `rows::widen_row` meets its contract: the row that is read is widened and written back.
+-- Assumes nothing.
+use mathlib.Core.Path.{ap, _∙_}
+use borrow.Author.Needs.{needs}
+use denote.Ref.{now}
+use mir.Syntax.{w16}
+use Rattle.ints.proofs.Machine.{tested₂}
+use Rattle.rows.specs.Row.{widened}
+use Rattle.rows.specs.Table.{withRow}
+use Rattle.rows.specs.declared.Row.{Row}
+use Rattle.rows.proofs.widen_row.Statement.{statement}
+use Rattle.rows.proofs.widen_row.Tie as tie
+
+read-requires : tie.Need-read-requires
+read-requires c κs = search needs
+
+widen-requires : tie.Need-widen-requires
+widen-requires c κs = search needs
+
+write-requires : tie.Need-write-requires
+write-requires c κs = search needs
+
+same-length : tie.Need-same-length
+same-length c = search needs
+
+returns : tie.Need-returns
+returns c =
+    let w = c .before in
+    let d = w .before .before in
+    let r = d .before in
+    let e = r .before .before in
+    let p = tested₂ w16 (widened (r .read .result)) (d .widen .result) (e .args .vx) (e .args .vy) (d .widen .ensures) (e .fits .vx .sfits) (e .fits .vy .sfits) in
+    w .write .ensures
+    ∙ ap (withRow (now (e .args .table)) (e .args .slot) (e .args .number)) (p ∙ ap (λ (x : Row). widened x (e .args .vx) (e .args .vy)) (r .read .ensures))
+
+pub widen-row-spec : {M : Type 1} → statement M
+widen-row-spec = tie.close (tie.spec read-requires widen-requires write-requires same-length returns)

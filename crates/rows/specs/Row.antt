@@ -1,0 +1,62 @@
+-- A speed row: the least and the greatest vx and vy seen in a cell, in centimetres per second, and the bounds of a set of rows. Document 01,
+-- "Phases and speed rows" and "The four ways to choose cells".
+-- Assumes nothing.
+use mathlib.Core.Bool.{Bool, _&&_, _||_}
+use mathlib.Core.List.{List, [], _∷_}
+use Prim.Native.Nat.{suc}
+use lib.IntN.{ℤ, pos, negsuc, negℤ}
+use lib.Signed.{leZ}
+use Rattle.ints.specs.Whole.{minZ, maxZ, between, eqZ}
+use Rattle.grid.specs.Units.{speedLimit}
+use Rattle.rows.specs.declared.Row.{Row}
+
+-- an empty row: 501, -501, 501, -501
+abbrev pub emptyRow : Row
+emptyRow = record {
+  «least_vx» = pos (suc speedLimit);
+  «greatest_vx» = negsuc speedLimit;
+  «least_vy» = pos (suc speedLimit);
+  «greatest_vy» = negsuc speedLimit;
+}
+
+-- the row of one speed
+abbrev pub rowOfSpeed : ℤ → ℤ → Row
+rowOfSpeed vx vy = record { «least_vx» = vx; «greatest_vx» = vx; «least_vy» = vy; «greatest_vy» = vy }
+
+-- the smallest row that holds what either holds
+unfoldable pub joined : Row → Row → Row
+joined a b = record {
+  «least_vx» = minZ (a .«least_vx») (b .«least_vx»);
+  «greatest_vx» = maxZ (a .«greatest_vx») (b .«greatest_vx»);
+  «least_vy» = minZ (a .«least_vy») (b .«least_vy»);
+  «greatest_vy» = maxZ (a .«greatest_vy») (b .«greatest_vy»);
+}
+
+-- a row widened to take in a speed
+abbrev pub widened : Row → ℤ → ℤ → Row
+widened r vx vy = joined r (rowOfSpeed vx vy)
+
+-- whether a speed lies in a row
+unfoldable pub holds : Row → ℤ → ℤ → Bool
+holds r vx vy = between (r .«least_vx») (r .«greatest_vx») vx && between (r .«least_vy») (r .«greatest_vy») vy
+
+unfoldable pub sameRow : Row → Row → Bool
+sameRow a b =
+    (eqZ (a .«least_vx») (b .«least_vx») && eqZ (a .«greatest_vx») (b .«greatest_vx»))
+    && (eqZ (a .«least_vy») (b .«least_vy») && eqZ (a .«greatest_vy») (b .«greatest_vy»))
+
+unfoldable pub isEmpty : Row → Bool
+isEmpty r = sameRow r emptyRow
+
+-- least at most greatest, within the speed limit either way
+abbrev pub validAxis : ℤ → ℤ → Bool
+validAxis least greatest = leZ (negℤ (pos speedLimit)) least && (leZ least greatest && leZ greatest (pos speedLimit))
+
+-- a row that a sound table may hold
+unfoldable pub validRow : Row → Bool
+validRow r = isEmpty r || (validAxis (r .«least_vx») (r .«greatest_vx») && validAxis (r .«least_vy») (r .«greatest_vy»))
+
+-- the bounds of a set of rows: the smallest that hold every nonempty row; with none there are no bounds, and this row is the empty one
+unfoldable pub boundsOf : List Row → Row
+boundsOf [] = emptyRow
+boundsOf (r ∷ rs) = joined r (boundsOf rs)
