@@ -3,3 +3,4 @@ mod Tables
 pub mod Curve
 pub mod Places
 pub mod Sightings
+pub mod MotionLaws

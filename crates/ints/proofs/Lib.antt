@@ -2,3 +2,8 @@ pub mod Parts
 pub mod Least
 pub mod Machine
 pub mod Truth
+pub mod Same
+pub mod Lists
+pub mod Members
+pub mod Marks
+pub mod Rising

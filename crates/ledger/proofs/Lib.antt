@@ -1,1 +1,4 @@
 pub mod Sightings
+pub mod MachineLaws
+pub mod OrderLaws
+pub mod SumLaws

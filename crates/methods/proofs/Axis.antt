@@ -270,7 +270,7 @@ pub record Leads (i : ℕ) (l g d : ℤ) (r : Range) : Type 0 where
   pub to-greatest : leZ v g ≡ true
   pub in-range : between (r .low) (r .high) (positionAfter x v d) ≡ true
 
-meets-is : (s : Span) (l g d : ℤ) (r : Range) → meets (movedSpan s l g d) r ≡ notBelow (shifted (s .low) (leastTravel l g d)) (r .high) && notAbove (shifted (s .high) (greatestTravel l g d)) (r .low)
+pub meets-is : (s : Span) (l g d : ℤ) (r : Range) → meets (movedSpan s l g d) r ≡ notBelow (shifted (s .low) (leastTravel l g d)) (r .high) && notAbove (shifted (s .high) (greatestTravel l g d)) (r .low)
 unfolding meets
 meets-is s l g d r = rw (moved-low s l g d, moved-high s l g d)
 

@@ -127,7 +127,7 @@ cells-once b = rows-once b (b .«first_row») (rowsOf b)
 
 -- ---- how many
 
-row-length : (row column n : ℕ) → length (cellsOfRow row column n) ≡ n
+pub row-length : (row column n : ℕ) → length (cellsOfRow row column n) ≡ n
 unfolding cellsOfRow
 row-length row column zero = refl
 row-length row column (suc n) = ap suc (row-length row (suc column) n)

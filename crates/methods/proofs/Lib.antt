@@ -4,4 +4,12 @@ pub mod Nesting
 pub mod Exact
 pub mod Rounds
 pub mod Claims
+pub mod ReachLaws
+pub mod Passes
+pub mod BoundsLaws
+pub mod MarkLaws
+pub mod ChosenLaws
+pub mod ChooseLaws
 pub mod Sightings
+pub mod ChoiceLaws
+pub mod SetLaws

@@ -89,7 +89,7 @@ pub record Shrinking (rows : Rows) (q : Rect) (d : ℤ) (b : Block) : Type 0 whe
   pub ordered : Ordered b
 
 module _ (rows : Rows) (q : Rect) (d : ℤ) (asked : Asked rows q d) where
-  all-valid : {b : Block} → BlockWithin b wholeGrid → AllValid (map rows (cellsOf b))
+  pub all-valid : {b : Block} → BlockWithin b wholeGrid → AllValid (map rows (cellsOf b))
   all-valid {b} on r m =
       let k = Memᴰ·of-map rows (cellsOf b) m in
       subst (λ (z : Row). validRow z ≡ true) (k .2) (asked .valid (k .0) (within-grid-on on (k .1)))

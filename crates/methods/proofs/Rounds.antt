@@ -43,7 +43,7 @@ module _ (rows : Rows) (q : Rect) (d : ℤ) (n : ℕ) (before : Row) (b : Block)
   unfolding iterated
   none-is e = rw (e, iterated)
 
-  same-is : isEmpty (boundsIn rows b) ≡ false → sameRow (boundsIn rows b) before ≡ true → iterated (suc n) rows q d before b r ≡ record { block = found b; rounds = r }
+  pub same-is : isEmpty (boundsIn rows b) ≡ false → sameRow (boundsIn rows b) before ≡ true → iterated (suc n) rows q d before b r ≡ record { block = found b; rounds = r }
   unfolding iterated
   same-is e h = rw (e, iterated) (rw h)
 

@@ -1,4 +1,9 @@
-// The four ways to choose cells.
+// The four ways to choose cells: document 01, "The four ways to choose cells".
+
+pub mod bounds;
+pub mod choose;
+pub mod mark;
+pub mod reach;
 
 // Every cell from a first column and row to a last column and row.
 pub struct Block {
@@ -6,4 +11,22 @@ pub struct Block {
     pub last_column: usize,
     pub first_row: usize,
     pub last_row: usize,
+}
+
+// A block, or none where bounds are missing.
+pub struct FoundBlock {
+    pub missing: bool,
+    pub block: Block,
+}
+
+// What the iterative method comes to, and the rounds that it took.
+pub struct Searched {
+    pub found: FoundBlock,
+    pub rounds: usize,
+}
+
+// How many cells a method chose, and the rounds that it took.
+pub struct Chosen {
+    pub size: usize,
+    pub rounds: usize,
 }

@@ -1,3 +1,4 @@
 pub mod RowLaws
 pub mod PhaseLaws
 pub mod TableLaws
+pub mod SlotLaws

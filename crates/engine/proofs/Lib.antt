@@ -1,0 +1,4 @@
+pub mod AskLaws
+pub mod ListIsExact
+pub mod Counts
+pub mod CheckLaws

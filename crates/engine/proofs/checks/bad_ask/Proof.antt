@@ -1,0 +1,34 @@
+-- `engine::checks::bad_ask` meets its contract: the method first, then the rectangle.
+-- Assumes nothing.
+use mathlib.Core.Path.{_≡_, refl, sym, ap, _∙_}
+use borrow.Author.Needs.{needs}
+use borrow.Author.Tests.{not-true, not-false}
+use mir.Syntax.{w32, w64}
+use Rattle.ints.proofs.Machine.{tested₁}
+use mathlib.Core.Bool.{Bool, not}
+use lib.IntN.{pos}
+use Rattle.ints.specs.Whole.{between}
+use Rattle.engine.proofs.checks.bad_ask.Statement.{statement}
+use Rattle.engine.proofs.checks.bad_ask.Tie as tie
+
+is-method-requires : tie.Need-is-method-requires
+is-method-requires c κs = search needs
+
+returns : tie.Need-returns
+returns c =
+    let g = c .before in
+    let e = sym (tested₁ w32 (between (pos 0) (pos 3)) (g .is-method .result) (g .before .args .method) (g .is-method .ensures) (search needs)) ∙ not-true (g .is-method .result) (c .if1 .taken) in
+    sym (simp e)
+
+is-rectangle-requires : tie.Need-is-rectangle-requires
+is-rectangle-requires c κs = search needs
+
+returns-2 : tie.Need-returns-2
+returns-2 c =
+    let k = c .before in
+    let g = k .before in
+    let e = sym (tested₁ w32 (between (pos 0) (pos 3)) (g .is-method .result) (g .before .args .method) (g .is-method .ensures) (search needs)) ∙ not-false (g .is-method .result) (k .if1 .left) in
+    ap not (c .is-rectangle .ensures) ∙ sym (simp e)
+
+pub bad-ask-spec : {M : Type 1} → statement M
+bad-ask-spec = tie.close (tie.spec is-method-requires returns is-rectangle-requires returns-2)

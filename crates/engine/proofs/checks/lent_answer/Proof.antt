@@ -1,0 +1,34 @@
+-- `engine::checks::lent_answer` meets its contract: the lengths first, then soundness.
+-- Assumes nothing.
+use mathlib.Core.Path.{_≡_, refl, sym, ap, _∙_}
+use borrow.Author.Needs.{needs}
+use borrow.Author.Tests.{not-true, not-false}
+use Rattle.ledger.specs.declared.Answer.the-variants.{Accepted, WrongLength, Unsound}
+use mathlib.Core.Bool.{not}
+use Rattle.engine.proofs.CheckLaws.{fails, passes, accepts}
+use Rattle.engine.proofs.checks.lent_answer.Statement.{statement}
+use Rattle.engine.proofs.checks.lent_answer.Tie as tie
+
+wrong-length-requires : tie.Need-wrong-length-requires
+wrong-length-requires c κs = search needs
+
+returns : tie.Need-returns
+returns c = fails _ WrongLength _ _ (sym (c .before .wrong-length .ensures) ∙ c .if1 .taken)
+
+is-sound-requires : tie.Need-is-sound-requires
+is-sound-requires c κs = search needs
+
+returns-2 : tie.Need-returns-2
+returns-2 c =
+    let g = c .before .before in
+    passes _ WrongLength _ _ _ (sym (g .before .wrong-length .ensures) ∙ g .if1 .left)
+    (fails _ Unsound _ _ (ap not (sym (c .before .is-sound .ensures)) ∙ c .if2 .taken))
+
+returns-3 : tie.Need-returns-3
+returns-3 c =
+    let g = c .before .before in
+    passes _ WrongLength _ _ _ (sym (g .before .wrong-length .ensures) ∙ g .if1 .left)
+    (passes _ Unsound _ _ _ (ap not (sym (c .before .is-sound .ensures)) ∙ c .if2 .left) (accepts _ _ refl))
+
+pub lent-answer-spec : {M : Type 1} → statement M
+lent-answer-spec = tie.close (tie.spec wrong-length-requires returns is-sound-requires returns-2 returns-3)

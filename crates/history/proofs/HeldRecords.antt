@@ -1,0 +1,128 @@
+-- The records of the held reports: as many, with the same ids, in order, sound; and a drop or a clock step of the held reports is that of their
+-- records.
+-- Assumes nothing.
+use mathlib.Core.Path.{_≡_, refl, sym, ap, _∙_}
+use mathlib.Core.Bool.{Bool, true, false, cond, _&&_, not}
+use mathlib.Core.List.{List, [], _∷_, List·Memᴰ, List·Memᴰ·head, List·Memᴰ·tail, List·Memᴰ·not-nil}
+use mathlib.Core.Logic.{⊎-elim}
+use Prim.Native.Nat.{ℕ, suc}
+use lib.IntN.{ℤ}
+use lib.ListN.{length}
+use borrow.Author.Tests.{leb-true, not-true}
+use Rattle.ints.specs.Whole.{eqZ}
+use Rattle.ints.proofs.Truth.{and-left, and-right}
+use Rattle.ints.proofs.Same.{same-is}
+use Rattle.rows.specs.Phases.{phaseOf, isLive}
+use Rattle.store.specs.Order.{hasId}
+use Rattle.store.specs.Soundness.{isSoundRecord, allSound, idsDistinct}
+use Rattle.store.specs.Changes.{inserted, removed, placedIn, kept, replaced, insertedAll, livesOn, steppedRecords}
+use Rattle.store.specs.declared.Record.{Record}
+use Rattle.store.proofs.SoundLawsKeys.{live-phase-of-key, placed-right}
+use Rattle.store.proofs.SoundLaws.{record-sound}
+use Rattle.store.proofs.OrderLaws.{Ascending, inserted-from, inserted-length, has-inserted, ascending-inserted, inserted-passes, distinct-inserted, removed-same, removed-other, stepped-kept, stepped-replaced}
+use Rattle.ledger.specs.Machine.{Held, Placement, isHeld, without, steppedHeld}
+use Rattle.history.proofs.Relation.{recordOf, recordsOfHeld, heldOnce, GoodHeld}
+
+pub records-length : (hs : List Held) → length (recordsOfHeld hs) ≡ length hs
+unfolding recordsOfHeld
+records-length [] = refl
+records-length (h ∷ hs) = inserted-length (recordOf h) (recordsOfHeld hs) ∙ ap suc (records-length hs)
+
+pub records-has : (id : ℤ) (hs : List Held) → hasId id (recordsOfHeld hs) ≡ isHeld id hs
+unfolding recordsOfHeld isHeld hasId
+records-has id [] = refl
+records-has id (h ∷ hs) = has-inserted id (recordOf h) (recordsOfHeld hs) ∙ rw (records-has id hs)
+
+-- each is that of a held report
+pub records-from : {x : Record} (hs : List Held) → List·Memᴰ x (recordsOfHeld hs) → (h : Held) × List·Memᴰ h hs × (x ≡ recordOf h)
+unfolding recordsOfHeld
+records-from [] m = absurd (List·Memᴰ·not-nil m)
+records-from {x} (h ∷ hs) m =
+    ⊎-elim first (λ k. more (records-from hs k)) (inserted-from (recordOf h) (recordsOfHeld hs) m)
+  where
+    first : x ≡ recordOf h → (g : Held) × List·Memᴰ g (h ∷ hs) × (x ≡ recordOf g)
+    first e = (h, List·Memᴰ·head refl, e)
+
+    more : (g : Held) × List·Memᴰ g hs × (x ≡ recordOf g) → (g : Held) × List·Memᴰ g (h ∷ hs) × (x ≡ recordOf g)
+    more t = (t .0, List·Memᴰ·tail (t .1), t .2)
+
+-- ---- each id is held once
+
+pub first-once : (h : Held) (hs : List Held) → heldOnce (h ∷ hs) ≡ true → isHeld (h .report .id) hs ≡ false
+unfolding heldOnce
+first-once h hs o = not-true (isHeld (h .report .id) hs) (and-left _ (heldOnce hs) o)
+
+pub rest-once : (h : Held) (hs : List Held) → heldOnce (h ∷ hs) ≡ true → heldOnce hs ≡ true
+unfolding heldOnce
+rest-once h hs o = and-right (not (isHeld (h .report .id) hs)) _ o
+
+pub once-more : (h : Held) (hs : List Held) → isHeld (h .report .id) hs ≡ false → heldOnce hs ≡ true → heldOnce (h ∷ hs) ≡ true
+unfolding heldOnce
+once-more h hs n o = rw n o
+
+fresh : (h : Held) (hs : List Held) → heldOnce (h ∷ hs) ≡ true → hasId (h .report .id) (recordsOfHeld hs) ≡ false
+fresh h hs o = records-has (h .report .id) hs ∙ first-once h hs o
+
+pub records-ascending : (hs : List Held) → heldOnce hs ≡ true → Ascending (recordsOfHeld hs)
+unfolding recordsOfHeld
+records-ascending [] o = tt
+records-ascending (h ∷ hs) o =
+    ascending-inserted (recordOf h) (recordsOfHeld hs) (fresh h hs o) (records-ascending hs (rest-once h hs o))
+
+pub records-distinct : (hs : List Held) → heldOnce hs ≡ true → idsDistinct (recordsOfHeld hs) ≡ true
+unfolding recordsOfHeld idsDistinct
+records-distinct [] o = refl
+records-distinct (h ∷ hs) o =
+    distinct-inserted (recordOf h) (recordsOfHeld hs) (fresh h hs o) (records-distinct hs (rest-once h hs o))
+
+-- ---- a good held report has a sound record
+
+good-record : (now : ℤ) (ps : List Placement) (h : Held) → GoodHeld now ps h → isSoundRecord now (recordOf h) ≡ true
+good-record now ps h g =
+    record-sound now (recordOf h) (g .ranged) (g .sent)
+    (placed-right now (h .phase) (h .report) (g .live) (leb-true (phaseOf (h .report .t)) (h .phase) (g .not-before)))
+
+sound-more : (now : ℤ) (r : Record) (rs : List Record) → allSound now (r ∷ rs) ≡ isSoundRecord now r && allSound now rs
+unfolding allSound
+sound-more now r rs = refl
+
+pub records-sound : (now : ℤ) (ps : List Placement) (hs : List Held) → ((h : Held) → List·Memᴰ h hs → GoodHeld now ps h) → allSound now (recordsOfHeld hs) ≡ true
+unfolding recordsOfHeld allSound
+records-sound now ps [] each = refl
+records-sound now ps (h ∷ hs) each =
+    inserted-passes (allSound now) (isSoundRecord now) (sound-more now) (recordOf h) (recordsOfHeld hs)
+    (good-record now ps h (each h (List·Memᴰ·head refl)))
+    (records-sound now ps hs (λ g m. each g (List·Memᴰ·tail m)))
+
+-- ---- a drop
+
+pub records-removed : (id : ℤ) (hs : List Held) → heldOnce hs ≡ true → removed id (recordsOfHeld hs) ≡ recordsOfHeld (without id hs)
+unfolding recordsOfHeld without removed
+records-removed id [] o = refl
+records-removed id (h ∷ hs) o = go (eqZ (h .report .id) id) refl (records-removed id hs (rest-once h hs o))
+  where
+    go : (t : Bool) → eqZ (h .report .id) id ≡ t → removed id (recordsOfHeld hs) ≡ recordsOfHeld (without id hs) → removed id (inserted (recordOf h) (recordsOfHeld hs)) ≡ recordsOfHeld (cond t hs (h ∷ without id hs))
+    go true e k =
+        removed-same id (recordOf h) (recordsOfHeld hs) e
+        (ap (λ (z : ℤ). hasId z (recordsOfHeld hs)) (sym (same-is (h .report .id) id e)) ∙ fresh h hs o)
+    go false e k =
+        removed-other id (recordOf h) (recordsOfHeld hs) e (records-ascending hs (rest-once h hs o)) ∙ ap (inserted (recordOf h)) k
+
+-- ---- the clock step
+
+pub records-stepped : (c later : ℕ) (hs : List Held) → heldOnce hs ≡ true → ((h : Held) → List·Memᴰ h hs → isLive c (h .phase) ≡ true) → steppedRecords c later (recordsOfHeld hs) ≡ recordsOfHeld (steppedHeld later hs)
+unfolding recordsOfHeld steppedHeld kept replaced insertedAll
+records-stepped c later [] o live = refl
+records-stepped c later (h ∷ hs) o live =
+    go (isLive later (h .phase)) refl (records-stepped c later hs (rest-once h hs o) (λ g m. live g (List·Memᴰ·tail m)))
+  where
+    phase : livesOn c later (recordOf h) ≡ isLive later (h .phase)
+    phase = ap (isLive later) (live-phase-of-key c (h .phase) (h .report) (live h (List·Memᴰ·head refl)))
+
+    go : (t : Bool) → isLive later (h .phase) ≡ t → steppedRecords c later (recordsOfHeld hs) ≡ recordsOfHeld (steppedHeld later hs) → steppedRecords c later (inserted (recordOf h) (recordsOfHeld hs)) ≡ inserted (recordOf (cond t h (record { report = h .report; phase = later }))) (recordsOfHeld (steppedHeld later hs))
+    go true e k =
+        stepped-kept c later (recordOf h) (recordsOfHeld hs) (phase ∙ e) (fresh h hs o) (records-ascending hs (rest-once h hs o))
+        ∙ ap (inserted (recordOf h)) k
+    go false e k =
+        stepped-replaced c later (recordOf h) (recordsOfHeld hs) (phase ∙ e) (fresh h hs o)
+        ∙ ap (inserted (placedIn later (h .report))) k

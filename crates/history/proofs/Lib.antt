@@ -1,0 +1,11 @@
+pub mod Relation
+pub mod HeldRecords
+pub mod GoodKept
+pub mod PlacedRows
+pub mod Sound
+pub mod Steps
+pub mod Every
+pub mod Counted
+pub mod UsefulCells
+pub mod Asks
+pub mod Claims

@@ -1,0 +1,262 @@
+-- The rows of the index's table are the ledger's: valid, and still so after a clock step and after a report is placed.
+-- Assumes nothing.
+use mathlib.Core.Path.{_≡_, refl, sym, ap, ap₂, _∙_, subst}
+use mathlib.Core.Bool.{Bool, true, false, cond, _&&_}
+use mathlib.Core.List.{List, [], _∷_, _++_, List·Memᴰ, List·Memᴰ·head, List·Memᴰ·tail, List·Memᴰ·eq-of-singleton, Memᴰ·append-left, Memᴰ·append-right}
+use mathlib.Core.Logic.{⊎-elim, dite}
+use Prim.Native.Nat.{ℕ, _≤_, _<_}
+use native.Mathlib.Decide.{decLt}
+use native.Mathlib.Omega.{arith}
+use lib.Dec.{eqb}
+use lib.IntN.{ℤ}
+use lib.ListN.{length}
+use lib.Signed.{leZ}
+use borrow.Author.Tests.{eqb-true, eq-eqb, ne-eqb}
+use Rattle.ints.proofs.Truth.{same-truth, and-true, and-left, and-right}
+use Rattle.grid.specs.Units.{cells}
+use Rattle.grid.specs.Places.{OnGrid}
+use Rattle.grid.specs.Curve.{curveNumber, cellOfNumber}
+use Rattle.grid.specs.Reports.{isTime, inRange, xAt, yAt}
+use Rattle.grid.specs.declared.Cell.{Cell}
+use Rattle.grid.specs.declared.Report.{Report}
+use Rattle.grid.proofs.Places.{cell-on}
+use Rattle.grid.proofs.Curve.{number-of-its-cell, cell-of-its-number}
+use Rattle.rows.specs.Row.{emptyRow, rowOfSpeed, joined, validRow, boundsOf}
+use Rattle.rows.specs.Phases.{phaseOf, referenceTime, isLive, slotOf, slots}
+use Rattle.rows.specs.Table.{tableWords, rowAt, withNewlyLiveEmpty}
+use Rattle.rows.specs.declared.Row.{Row}
+use Rattle.rows.proofs.RowLaws.{AllValid, joined-same, speed-ranged, ranged-valid, empty-valid, bounds-valid, bounds-append}
+use Rattle.rows.proofs.PhaseLaws.{live-range, range-live, same-slot, slot-on}
+use Rattle.rows.proofs.TableLaws.{length-newly-live-empty, newly-live-emptied, earlier-live-kept}
+use Rattle.rows.proofs.SlotLaws.{phase-in-slot, slot-cases, other-slot-kept}
+use Rattle.store.specs.Order.{keyIn, slotOfKey, numberOfKey}
+use Rattle.store.specs.Changes.{placedIn, livesOn, replaced, withSpeeds}
+use Rattle.store.specs.declared.Record.{Record}
+use Rattle.store.proofs.SoundLawsKeys.{slot-of-key-in, number-of-key-in, live-phase-of-key}
+use Rattle.store.proofs.SoundLawsRanges.{ranges, speed-size}
+use Rattle.store.proofs.OrderLaws.{replaced-from}
+use Rattle.store.proofs.SpeedLaws.{liesAt, speedsAt, Placeable, newBounds, withOne, bounds-inserted, with-speeds-length, row-with-speeds, none-elsewhere}
+use Rattle.ledger.specs.Machine.{Ledger, Held, Placement, placeIn, placement, newPlacements, livePlacements, stepped, withReport, speedsPlaced, rowsIn}
+use Rattle.ledger.proofs.MachineLaws.{isThere, speeds-append, speeds-live, no-speeds, speed-from}
+use Rattle.history.proofs.Relation.{recordOf, recordsOfHeld, GoodPlacement, Good}
+use Rattle.history.proofs.HeldRecords.{records-from}
+use Rattle.history.proofs.GoodKept.{phase-later, current-live, good-placement, stepped-good}
+
+-- what is said of the table alone
+pub record TableMatches (l : Ledger) (t : List ℤ) : Type 0 where
+  pub table-long : length t ≡ tableWords
+  pub rows-are : (p : ℕ) → isLive (phaseOf (l .now)) p ≡ true → (n : ℕ) → n < cells → rowAt t (slotOf p) n ≡ rowsIn l p (cellOfNumber n)
+  pub rest-empty : (slot n : ℕ) → slot < slots → n < cells → ((p : ℕ) → isLive (phaseOf (l .now)) p ≡ true → slotOf p ≡ slot → ⊥) → rowAt t slot n ≡ emptyRow
+
+-- ---- valid rows
+
+pub speeds-valid : (now : ℤ) (p : ℕ) (c : Cell) (ps : List Placement) → ((a : Placement) → List·Memᴰ a ps → GoodPlacement now a) → AllValid (speedsPlaced p c ps)
+speeds-valid now p c ps each r m =
+    let from = speed-from p c ps m in
+    let a = from .0 in
+    let g = each a (from .1) in
+    ap validRow (from .2) ∙ ranged-valid (speed-ranged (a .vx) (a .vy) (speed-size (a .vx) (g .speed-x)) (speed-size (a .vy) (g .speed-y)))
+
+pub table-valid : (l : Ledger) (t : List ℤ) → Good l → TableMatches l t → (slot n : ℕ) → slot < slots → n < cells → validRow (rowAt t slot n) ≡ true
+unfolding rowsIn
+table-valid l t good table slot n h k = ⊎-elim live none (slot-cases (phaseOf (l .now)) slot h)
+  where
+    live : (p : ℕ) × (isLive (phaseOf (l .now)) p ≡ true) × (slotOf p ≡ slot) → validRow (rowAt t slot n) ≡ true
+    live e =
+        ap (λ (x : ℕ). validRow (rowAt t x n)) (sym (e .2))
+        ∙ ap validRow (table .rows-are (e .0) (e .1) n k)
+        ∙ bounds-valid (speedsPlaced (e .0) (cellOfNumber n) (l .placements)) (speeds-valid (l .now) (e .0) (cellOfNumber n) (l .placements) (good .places))
+
+    none : ((p : ℕ) → isLive (phaseOf (l .now)) p ≡ true → slotOf p ≡ slot → ⊥) → validRow (rowAt t slot n) ≡ true
+    none far = ap validRow (table .rest-empty slot n h k far) ∙ empty-valid
+
+-- ---- a report placed in a phase lies in a row of the table exactly where the ledger places it in that row's phase and cell
+
+module _ (c p q n : ℕ) (r : Report) (live-p : isLive c p ≡ true) (live-q : isLive c q ≡ true) (here : n < cells) where
+  same-phase : eqb (slotOfKey (keyIn q r)) (slotOf p) ≡ eqb q p
+  same-phase =
+      same-truth _ _
+      (λ e. eq-eqb q p (same-slot c q p live-q live-p (sym (slot-of-key-in q r) ∙ eqb-true (slotOfKey (keyIn q r)) (slotOf p) e)))
+      (λ e. eq-eqb (slotOfKey (keyIn q r)) (slotOf p) (slot-of-key-in q r ∙ ap slotOf (eqb-true q p e)))
+
+  same-cell : eqb (numberOfKey (keyIn q r)) n ≡ (eqb (placeIn q r .column) (cellOfNumber n .column) && eqb (placeIn q r .row) (cellOfNumber n .row))
+  same-cell = same-truth _ _ there back
+    where
+      own : OnGrid (placeIn q r)
+      own = cell-on (xAt r (referenceTime q)) (yAt r (referenceTime q))
+
+      there : eqb (numberOfKey (keyIn q r)) n ≡ true → (eqb (placeIn q r .column) (cellOfNumber n .column) && eqb (placeIn q r .row) (cellOfNumber n .row)) ≡ true
+      there e =
+          let number = sym (number-of-key-in q r) ∙ eqb-true (numberOfKey (keyIn q r)) n e in
+          let cell : placeIn q r ≡ cellOfNumber n = sym (cell-of-its-number (placeIn q r) own) ∙ ap cellOfNumber number in
+          and-true _ _ (eq-eqb _ _ (ap (λ (x : Cell). x .column) cell)) (eq-eqb _ _ (ap (λ (x : Cell). x .row) cell))
+
+      back : (eqb (placeIn q r .column) (cellOfNumber n .column) && eqb (placeIn q r .row) (cellOfNumber n .row)) ≡ true → eqb (numberOfKey (keyIn q r)) n ≡ true
+      back e =
+          let u = eqb-true (placeIn q r .column) (cellOfNumber n .column) (and-left _ (eqb (placeIn q r .row) (cellOfNumber n .row)) e) in
+          let v = eqb-true (placeIn q r .row) (cellOfNumber n .row) (and-right (eqb (placeIn q r .column) (cellOfNumber n .column)) _ e) in
+          let cell : placeIn q r ≡ cellOfNumber n = λ i. record { column = u i; row = v i } in
+          eq-eqb (numberOfKey (keyIn q r)) n (number-of-key-in q r ∙ ap curveNumber cell ∙ number-of-its-cell n here)
+
+  pub placed-alike : liesAt (slotOf p) n (placedIn q r) ≡ isThere p (cellOfNumber n) (placement q r)
+  placed-alike = ap₂ _&&_ same-phase same-cell
+
+pub placeable : (p : ℕ) (r : Report) → inRange r ≡ true → Placeable (placedIn p r)
+placeable p r h =
+    let a = ranges r h in
+    record {
+      slot-on = omega (arith, slot-of-key-in p r, slot-on p);
+      small-x = speed-size (r .vx) (a .vx);
+      small-y = speed-size (r .vy) (a .vy);
+    }
+
+-- ---- the clock step
+
+-- the bounds of the speeds placed anew in a row, by the records and by the held reports
+pub bounds-alike : (c later p n : ℕ) (hs : List Held) → ((h : Held) → List·Memᴰ h hs → isLive c (h .phase) ≡ true) → isLive later p ≡ true → n < cells → newBounds c later (slotOf p) n (recordsOfHeld hs) ≡ boundsOf (speedsPlaced p (cellOfNumber n) (newPlacements later hs))
+unfolding recordsOfHeld newPlacements speedsPlaced boundsOf speedsAt replaced
+bounds-alike c later p n [] each live k = refl
+bounds-alike c later p n (h ∷ hs) each live k =
+    bounds-inserted c later (slotOf p) n (recordOf h) (recordsOfHeld hs)
+    ∙ ap (withOne c later (slotOf p) n (recordOf h)) (bounds-alike c later p n hs (λ g m. each g (List·Memᴰ·tail m)) live k)
+    ∙ ap₂ (λ (a b : Bool). cond a bounds (cond b (joined one bounds) bounds)) phase (placed-alike later p later n (h .report) live (current-live later) k)
+    ∙ go (isLive later (h .phase)) (isThere p (cellOfNumber n) (placement later (h .report)))
+  where
+    speeds : List Row
+    speeds = speedsPlaced p (cellOfNumber n) (newPlacements later hs)
+
+    bounds : Row
+    bounds = boundsOf speeds
+
+    one : Row
+    one = rowOfSpeed (h .report .vx) (h .report .vy)
+
+    phase : livesOn c later (recordOf h) ≡ isLive later (h .phase)
+    phase = ap (isLive later) (live-phase-of-key c (h .phase) (h .report) (each h (List·Memᴰ·head refl)))
+
+    inner : (b : Bool) → cond b (joined one bounds) bounds ≡ boundsOf (cond b (one ∷ speeds) speeds)
+    inner true = refl
+    inner false = refl
+
+    go : (a b : Bool) → cond a bounds (cond (isThere p (cellOfNumber n) (placement later (h .report))) (joined one bounds) bounds) ≡ boundsOf (speedsPlaced p (cellOfNumber n) (cond a (newPlacements later hs) (placement later (h .report) ∷ newPlacements later hs)))
+    go true b = refl
+    go false b = inner (isThere p (cellOfNumber n) (placement later (h .report)))
+
+module _ (l : Ledger) (t : List ℤ) (time : ℤ) (good : Good l) (table : TableMatches l t) (is-time : isTime time ≡ true) (later : leZ (l .now) time ≡ true) where
+  abbrev c : ℕ
+  c = phaseOf (l .now)
+
+  abbrev c′ : ℕ
+  c′ = phaseOf time
+
+  abbrev emptied : List ℤ
+  emptied = withNewlyLiveEmpty t c c′
+
+  abbrev anew : List Record
+  anew = replaced c c′ (recordsOfHeld (l .held))
+
+  not-earlier : c ≤ c′
+  not-earlier = phase-later (l .now) time later
+
+  long : length emptied ≡ tableWords
+  long = length-newly-live-empty t c c′ (table .table-long)
+
+  each-placeable : (r : Record) → List·Memᴰ r anew → Placeable r
+  each-placeable r m =
+      let from = replaced-from c c′ (recordsOfHeld (l .held)) m in
+      let held = records-from (l .held) (from .1) in
+      let report = ap (λ (x : Record). x .report) (held .2) in
+      subst Placeable (sym (from .2))
+      (placeable c′ (from .0 .report) (ap inRange report ∙ good .holds (held .0) (held .1) .ranged))
+
+  module _ (p n : ℕ) (live : isLive c′ p ≡ true) (here : n < cells) where
+    abbrev old : List Row
+    old = speedsPlaced p (cellOfNumber n) (livePlacements c′ (l .placements))
+
+    abbrev new : List Row
+    new = speedsPlaced p (cellOfNumber n) (newPlacements c′ (l .held))
+
+    kept-row : rowAt emptied (slotOf p) n ≡ boundsOf old
+    unfolding rowsIn boundsOf
+    kept-row =
+        dite (decLt c p)
+        (λ newly.
+        newly-live-emptied t c c′ (table .table-long) p n live here newly
+        ∙ sym (ap boundsOf (speeds-live c′ p (cellOfNumber n) (l .placements) live ∙ no-speeds p (cellOfNumber n) (l .placements) (λ a m e. let r = live-range c (a .phase) (good .places a m .live) in omega arith))))
+        (λ n₂.
+        let before : p ≤ c = omega arith in
+        let range = live-range c′ p live in
+        let was : isLive c p ≡ true = range-live c p before (omega (arith, not-earlier)) in
+        earlier-live-kept t c c′ (table .table-long) p n live here before
+        ∙ table .rows-are p was n here
+        ∙ sym (ap boundsOf (speeds-live c′ p (cellOfNumber n) (l .placements) live)))
+
+    good-after : (a : Placement) → List·Memᴰ a (livePlacements c′ (l .placements) ++ newPlacements c′ (l .held)) → GoodPlacement time a
+    unfolding stepped
+    good-after = stepped-good time l good is-time later .places
+
+    row-stepped : rowAt (withSpeeds emptied anew) (slotOf p) n ≡ boundsOf (speedsPlaced p (cellOfNumber n) (livePlacements c′ (l .placements) ++ newPlacements c′ (l .held)))
+    row-stepped =
+        let v : validRow (rowAt emptied (slotOf p) n) ≡ true =
+        ap validRow kept-row ∙ bounds-valid old (speeds-valid time p (cellOfNumber n) (livePlacements c′ (l .placements)) (λ a m. good-after a (Memᴰ·append-left (newPlacements c′ (l .held)) m))) in
+        row-with-speeds emptied anew (slotOf p) n long each-placeable here v
+        ∙ ap₂ joined kept-row (bounds-alike c c′ p n (l .held) (λ h m. good .holds h m .live) live here)
+        ∙ sym (bounds-append old new (speeds-valid time p (cellOfNumber n) (newPlacements c′ (l .held)) (λ a m. good-after a (Memᴰ·append-right (livePlacements c′ (l .placements)) m))))
+        ∙ sym (ap boundsOf (speeds-append p (cellOfNumber n) (livePlacements c′ (l .placements)) (newPlacements c′ (l .held))))
+
+  rest-stepped : (slot n : ℕ) → slot < slots → n < cells → ((p : ℕ) → isLive c′ p ≡ true → slotOf p ≡ slot → ⊥) → rowAt (withSpeeds emptied anew) slot n ≡ emptyRow
+  unfolding boundsOf
+  rest-stepped slot n h here far =
+      let was : (q : ℕ) → isLive c q ≡ true → slotOf q ≡ slot → ⊥ =
+      λ q live e. let range = live-range c q live in let s = phase-in-slot c′ q (omega (arith, not-earlier)) in far (s .0) (s .1) (s .2 ∙ e) in
+      let empty = other-slot-kept t c c′ slot n (table .table-long) here far ∙ table .rest-empty slot n h here was in
+      row-with-speeds emptied anew slot n long each-placeable here (ap validRow empty ∙ empty-valid)
+      ∙ ap₂ (λ (x : Row) (s : List Row). joined x (boundsOf s)) empty (none-elsewhere c c′ slot n (recordsOfHeld (l .held)) (far c′ (current-live c′)))
+      ∙ joined-same emptyRow
+
+  pub stepped-table : TableMatches (stepped time l) (withSpeeds emptied anew)
+  unfolding stepped rowsIn
+  stepped-table =
+      record { table-long = with-speeds-length emptied anew ∙ long; rows-are = λ p live n h. row-stepped p n live h; rest-empty = rest-stepped }
+
+-- ---- a report placed in the current phase
+
+module _ (l : Ledger) (t : List ℤ) (r : Report) (good : Good l) (table : TableMatches l t) (ranged : inRange r ≡ true) where
+  abbrev now : ℕ
+  now = phaseOf (l .now)
+
+  abbrev one : List Record
+  one = placedIn now r ∷ []
+
+  one-placeable : (x : Record) → List·Memᴰ x one → Placeable x
+  one-placeable x m = subst Placeable (sym (List·Memᴰ·eq-of-singleton m)) (placeable now r ranged)
+
+  speeds-alike : (p n : ℕ) → isLive now p ≡ true → n < cells → speedsAt (slotOf p) n one ≡ speedsPlaced p (cellOfNumber n) (placement now r ∷ [])
+  unfolding speedsAt speedsPlaced
+  speeds-alike p n live here = rw (placed-alike now p now n r live (current-live now) here)
+
+  row-placed : (p : ℕ) → isLive now p ≡ true → (n : ℕ) → n < cells → rowAt (withSpeeds t one) (slotOf p) n ≡ boundsOf (speedsPlaced p (cellOfNumber n) (l .placements ++ placement now r ∷ []))
+  unfolding rowsIn
+  row-placed p live n here =
+      let one-good : (a : Placement) → List·Memᴰ a (placement now r ∷ []) → GoodPlacement (l .now) a =
+      λ a m. subst (GoodPlacement (l .now)) (sym (List·Memᴰ·eq-of-singleton m)) (good-placement (l .now) r ranged) in
+      row-with-speeds t one (slotOf p) n (table .table-long) one-placeable here (table-valid l t good table (slotOf p) n (slot-on p) here)
+      ∙ ap₂ (λ (x : Row) (s : List Row). joined x (boundsOf s)) (table .rows-are p live n here) (speeds-alike p n live here)
+      ∙ sym (bounds-append (speedsPlaced p (cellOfNumber n) (l .placements)) (speedsPlaced p (cellOfNumber n) (placement now r ∷ [])) (speeds-valid (l .now) p (cellOfNumber n) (placement now r ∷ []) one-good))
+      ∙ sym (ap boundsOf (speeds-append p (cellOfNumber n) (l .placements) (placement now r ∷ [])))
+
+  rest-placed : (slot n : ℕ) → slot < slots → n < cells → ((p : ℕ) → isLive now p ≡ true → slotOf p ≡ slot → ⊥) → rowAt (withSpeeds t one) slot n ≡ emptyRow
+  unfolding boundsOf speedsAt
+  rest-placed slot n h here far =
+      let empty = table .rest-empty slot n h here far in
+      let other : eqb (slotOfKey (keyIn now r)) slot ≡ false =
+      ne-eqb (slotOfKey (keyIn now r)) slot (λ e. far now (current-live now) (sym (slot-of-key-in now r) ∙ e)) in
+      let none : speedsAt slot n one ≡ [] = rw other in
+      row-with-speeds t one slot n (table .table-long) one-placeable here (ap validRow empty ∙ empty-valid)
+      ∙ ap₂ (λ (x : Row) (s : List Row). joined x (boundsOf s)) empty none
+      ∙ joined-same emptyRow
+
+  pub report-table : TableMatches (withReport r l) (withSpeeds t one)
+  unfolding withReport rowsIn
+  report-table =
+      record { table-long = with-speeds-length t one ∙ table .table-long; rows-are = row-placed; rest-empty = rest-placed }

@@ -1,0 +1,62 @@
+-- How the index's words and the ledger stand to each other at every point of a list: the store holds the words of the held reports, and each
+-- live phase's rows are the ledger's. What is kept of the ledger alone is `Good`.
+-- Assumes nothing.
+use mathlib.Core.Path.{_≡_}
+use mathlib.Core.Bool.{Bool, true, _&&_, not}
+use mathlib.Core.List.{List, [], _∷_, List·Memᴰ}
+use Prim.Native.Nat.{ℕ, _≤_, _<_}
+use lib.Dec.{leb}
+use lib.IntN.{ℤ, pos}
+use lib.ListN.{length}
+use Rattle.ints.specs.Whole.{between}
+use Rattle.grid.specs.Units.{cells, capacity}
+use Rattle.grid.specs.Places.{OnGrid}
+use Rattle.grid.specs.Curve.{cellOfNumber}
+use Rattle.grid.specs.Reports.{isTime, isSpeed, inRange}
+use Rattle.rows.specs.Row.{emptyRow}
+use Rattle.rows.specs.Phases.{phaseOf, isLive, slotOf, slots}
+use Rattle.rows.specs.Table.{tableWords, rowAt}
+use Rattle.store.specs.Records.{storeOf}
+use Rattle.store.specs.Changes.{inserted, placedIn}
+use Rattle.store.specs.declared.Record.{Record}
+use Rattle.ledger.specs.Machine.{Ledger, Held, Placement, placement, isHeld, rowsIn}
+use Rattle.history.specs.Index.{Words}
+
+-- the records of the held reports, sorted
+abbrev pub recordOf : Held → Record
+recordOf h = placedIn (h .phase) (h .report)
+
+unfoldable pub recordsOfHeld : List Held → List Record
+recordsOfHeld [] = []
+recordsOfHeld (h ∷ hs) = inserted (recordOf h) (recordsOfHeld hs)
+
+unfoldable pub heldOnce : List Held → Bool
+heldOnce [] = true
+heldOnce (h ∷ hs) = not (isHeld (h .report .id) hs) && heldOnce hs
+
+-- a held report: in range, not sent after now, in a live phase not before that of its time, and among the placements
+pub record GoodHeld (now : ℤ) (placements : List Placement) (h : Held) : Type 0 where
+  pub ranged : inRange (h .report) ≡ true
+  pub sent : between (pos 0) now (h .report .t) ≡ true
+  pub live : isLive (phaseOf now) (h .phase) ≡ true
+  pub not-before : leb (phaseOf (h .report .t)) (h .phase) ≡ true
+  pub placed : List·Memᴰ (placement (h .phase) (h .report)) placements
+
+pub record GoodPlacement (now : ℤ) (a : Placement) : Type 0 where
+  pub live : isLive (phaseOf now) (a .phase) ≡ true
+  pub on-grid : OnGrid (a .cell)
+  pub speed-x : isSpeed (a .vx) ≡ true
+  pub speed-y : isSpeed (a .vy) ≡ true
+
+pub record Good (l : Ledger) : Type 0 where
+  pub time : isTime (l .now) ≡ true
+  pub few : length (l .held) ≤ capacity
+  pub once : heldOnce (l .held) ≡ true
+  pub holds : (h : Held) → List·Memᴰ h (l .held) → GoodHeld (l .now) (l .placements) h
+  pub places : (a : Placement) → List·Memᴰ a (l .placements) → GoodPlacement (l .now) a
+
+pub record Matches (l : Ledger) (w : Words) : Type 0 where
+  pub store-is : w .store ≡ storeOf (l .now) (recordsOfHeld (l .held))
+  pub table-long : length (w .table) ≡ tableWords
+  pub rows-are : (p : ℕ) → isLive (phaseOf (l .now)) p ≡ true → (n : ℕ) → n < cells → rowAt (w .table) (slotOf p) n ≡ rowsIn l p (cellOfNumber n)
+  pub rest-empty : (slot n : ℕ) → slot < slots → n < cells → ((p : ℕ) → isLive (phaseOf (l .now)) p ≡ true → slotOf p ≡ slot → ⊥) → rowAt (w .table) slot n ≡ emptyRow

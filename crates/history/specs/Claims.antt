@@ -1,0 +1,75 @@
+-- Every history is the ledger's: demand 3 of document 01, as claims about the whole list of calls. A reader who believes the definitions named
+-- here can check in a few minutes what is claimed; the proofs are in proofs/.
+-- Assumes nothing.
+use mathlib.Core.Path.{_≡_}
+use mathlib.Core.Bool.{true, cond}
+use mathlib.Core.List.{List, [], _∷_, List·Memᴰ}
+use Prim.Native.Nat.{ℕ, _+_}
+use lib.IntN.{ℤ}
+use lib.ListN.{length}
+use Rattle.ints.specs.Whole.{up}
+use Rattle.grid.specs.declared.Rect.{Rect}
+use Rattle.rows.specs.Phases.{phaseOf, sinceReference, livePhases}
+use Rattle.methods.specs.Claims.{Nested}
+use Rattle.ledger.specs.Answers.{isAccepted, countsOf}
+use Rattle.ledger.specs.Machine.{Ledger, opened, rowsIn, choiceIn}
+use Rattle.ledger.specs.Calls as L
+use Rattle.ledger.specs.Calls.{Call, Reply}
+use Rattle.engine.specs.Index.{openOut, choiceOf}
+use Rattle.history.specs.Index.{Words, LentCall, ask, fedAll, replyTo, replies, after, openedWords}
+
+-- S9: open the index over any buffers and the ledger together, and give both the same list of calls. Whatever the list, every answer in it is the
+-- ledger's: number, value, ids in order, cells read, useful cells, rounds
+abbrev pub EveryHistoryIsTheLedgers : Type 0
+EveryHistoryIsTheLedgers =
+    (s t : List ℤ) (time : ℤ)
+    → isAccepted (openOut s t time .answer) ≡ true
+    → (calls : List LentCall)
+    → replies (openedWords s t time) calls ≡ L.replies (opened time) (fedAll calls)
+
+-- ---- S10: at every point of every list
+
+-- the index and the ledger at a point of a list: after open, or after any of its calls. The asks compared are each the next call there
+module _ (w : Words) (l : Ledger) where
+  abbrev pub Accepts : ℤ → ℤ → Rect → List ℕ → Type 0
+  Accepts method asked q list = isAccepted (replyTo w (ask method asked q list) .answer) ≡ true
+
+  -- what two asks that differ in the method alone have in common
+  pub record SharedAnswer (method method′ asked : ℤ) (q : Rect) (list list′ : List ℕ) : Type 0 where
+    pub ids-shared : replyTo w (ask method asked q list) .ids ≡ replyTo w (ask method′ asked q list′) .ids
+    pub useful-shared : countsOf (replyTo w (ask method asked q list) .answer) .useful ≡ countsOf (replyTo w (ask method′ asked q list′) .answer) .useful
+
+  pub record PointAgrees : Type 0 where
+    -- two accepted asks share ids and useful cells
+    pub shared : (method method′ asked : ℤ) (q : Rect) (list list′ : List ℕ) → Accepts method asked q list → Accepts method′ asked q list′ → SharedAnswer method method′ asked q list list′
+    -- in each live phase the set that the index reads is the set that the method chooses by the ledger's rows
+    pub same-set : (method asked : ℤ) (q : Rect) (list : List ℕ) → Accepts method asked q list → (p : ℕ) → List·Memᴰ p (livePhases (phaseOf (l .now))) → choiceOf (w .store) (w .table) (up method) asked q p ≡ choiceIn l (up method) asked q p
+    -- and the methods' sets are nested
+    pub nested : (method asked : ℤ) (q : Rect) (list : List ℕ) → Accepts method asked q list → (p : ℕ) → List·Memᴰ p (livePhases (phaseOf (l .now))) → Nested (rowsIn l p) q (sinceReference p asked)
+
+abbrev pub EveryPointAgrees : Type 0
+EveryPointAgrees =
+    (s t : List ℤ) (time : ℤ)
+    → isAccepted (openOut s t time .answer) ≡ true
+    → (calls : List LentCall)
+    → PointAgrees (after (openedWords s t time) calls) (L.after (opened time) (fedAll calls))
+
+-- ---- S11: floats held are the accepted adds less the accepted drops
+
+abbrev pub countIf : Call → ℕ → ℕ → ℕ
+countIf (L.clock t) adds drops = 0
+countIf (L.add r) adds drops = adds
+countIf (L.report r) adds drops = 0
+countIf (L.drop id t) adds drops = drops
+countIf (L.ask method asked q room) adds drops = 0
+
+-- the accepted adds (1 0) or drops (0 1) among some calls, from a ledger on
+unfoldable pub acceptedOf : ℕ → ℕ → Ledger → List Call → ℕ
+acceptedOf adds drops l [] = 0
+acceptedOf adds drops l (call ∷ calls) =
+    cond (isAccepted (L.answerTo l call)) (countIf call adds drops) 0 + acceptedOf adds drops (L.next l call) calls
+
+abbrev pub HeldAreAddsLessDrops : Type 0
+HeldAreAddsLessDrops =
+    (time : ℤ) (calls : List Call)
+    → length (L.after (opened time) calls .held) + acceptedOf 0 1 (opened time) calls ≡ acceptedOf 1 0 (opened time) calls

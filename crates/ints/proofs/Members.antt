@@ -1,0 +1,90 @@
+-- Lists by membership: what a function makes of the elements, the elements that pass a test, and whether one passes.
+-- Assumes nothing.
+use mathlib.Core.Path.{_≡_, refl, sym, ap, ap₂, _∙_}
+use mathlib.Core.Bool.{Bool, true, false, _||_, cond}
+use mathlib.Core.List.{List, [], _∷_, map, List·Memᴰ, List·Memᴰ·head, List·Memᴰ·tail, List·Memᴰ·cases-cons, List·Memᴰ·not-nil}
+use mathlib.Core.Logic.{⊎-elim}
+use Rattle.ints.proofs.Parts.{true-false}
+
+pub false-of : (b : Bool) → (b ≡ true → ⊥) → b ≡ false
+false-of true n = absurd (n refl)
+false-of false n = refl
+
+pub or-left : (a b : Bool) → a ≡ true → a || b ≡ true
+or-left a b e = rw e
+
+pub or-right : (a b : Bool) → b ≡ true → a || b ≡ true
+or-right true b e = refl
+or-right false b e = e
+
+pub or-false-right : (a b : Bool) → a || b ≡ false → b ≡ false
+or-false-right true b h = absurd (true-false h)
+or-false-right false b h = h
+
+-- ---- what a function makes of the elements
+
+pub map-has : {A B : Type 0} (f : A → B) (xs : List A) {a : A} → List·Memᴰ a xs → List·Memᴰ (f a) (map f xs)
+map-has f [] m = absurd (List·Memᴰ·not-nil m)
+map-has f (b ∷ bs) m =
+    ⊎-elim (λ p. List·Memᴰ·head (ap f p)) (λ k. List·Memᴰ·tail (map-has f bs k)) (List·Memᴰ·cases-cons m)
+
+pub map-in : {A B : Type 0} (f : A → B) (xs : List A) {b : B} → List·Memᴰ b (map f xs) → (a : A) × List·Memᴰ a xs × (b ≡ f a)
+map-in f [] m = absurd (List·Memᴰ·not-nil m)
+map-in f (a ∷ xs) m =
+    ⊎-elim (λ p. (a, List·Memᴰ·head refl, p)) (λ k. let r = map-in f xs k in (r .0, List·Memᴰ·tail (r .1), r .2)) (List·Memᴰ·cases-cons m)
+
+-- ---- the elements that pass
+
+unfoldable pub passing : {A : Type 0} → (A → Bool) → List A → List A
+passing f [] = []
+passing f (a ∷ xs) = cond (f a) (a ∷ passing f xs) (passing f xs)
+
+pub passing-in : {A : Type 0} (f : A → Bool) (xs : List A) {a : A} → List·Memᴰ a (passing f xs) → List·Memᴰ a xs × (f a ≡ true)
+unfolding passing
+passing-in f [] m = absurd (List·Memᴰ·not-nil m)
+passing-in {A} f (b ∷ bs) {a} m = go (f b) refl m (λ k. passing-in f bs k)
+  where
+    go : (t : Bool) → f b ≡ t → List·Memᴰ a (cond t (b ∷ passing f bs) (passing f bs)) → (List·Memᴰ a (passing f bs) → List·Memᴰ a bs × (f a ≡ true)) → List·Memᴰ a (b ∷ bs) × (f a ≡ true)
+    go true e k ih =
+        ⊎-elim (λ (p : a ≡ b). (List·Memᴰ·head p, ap f p ∙ e)) (λ n. let r = ih n in (List·Memᴰ·tail (r .0), r .1)) (List·Memᴰ·cases-cons k)
+    go false e k ih = let r = ih k in (List·Memᴰ·tail (r .0), r .1)
+
+pub passing-has : {A : Type 0} (f : A → Bool) (xs : List A) {a : A} → List·Memᴰ a xs → f a ≡ true → List·Memᴰ a (passing f xs)
+unfolding passing
+passing-has f [] m h = absurd (List·Memᴰ·not-nil m)
+passing-has {A} f (b ∷ bs) {a} m h = go (f b) refl (λ k. passing-has f bs k h)
+  where
+    go : (t : Bool) → f b ≡ t → (List·Memᴰ a bs → List·Memᴰ a (passing f bs)) → List·Memᴰ a (cond t (b ∷ passing f bs) (passing f bs))
+    go true e ih = ⊎-elim (λ p. List·Memᴰ·head p) (λ k. List·Memᴰ·tail (ih k)) (List·Memᴰ·cases-cons m)
+    go false e ih = ⊎-elim (λ (p : a ≡ b). absurd (true-false (sym h ∙ ap f p ∙ e))) ih (List·Memᴰ·cases-cons m)
+
+-- two tests that agree on a list pass the same elements
+pub passing-same : {A : Type 0} (f g : A → Bool) (xs : List A) → ((a : A) → List·Memᴰ a xs → f a ≡ g a) → passing f xs ≡ passing g xs
+unfolding passing
+passing-same f g [] h = refl
+passing-same {A} f g (a ∷ xs) h =
+    let rest = passing-same f g xs (λ b m. h b (List·Memᴰ·tail m)) in
+    ap₂ (λ (t : Bool) (more : List A). cond t (a ∷ more) more) (h a (List·Memᴰ·head refl)) rest
+
+-- ---- whether one passes
+
+unfoldable pub some : {A : Type 0} → (A → Bool) → List A → Bool
+some f [] = false
+some f (a ∷ xs) = f a || some f xs
+
+pub some-passes : {A : Type 0} (f : A → Bool) (xs : List A) → some f xs ≡ true → (a : A) × List·Memᴰ a xs × (f a ≡ true)
+unfolding some
+some-passes f [] h = absurd (true-false (sym h))
+some-passes {A} f (b ∷ bs) h = go (f b) refl h (λ k. some-passes f bs k)
+  where
+    go : (t : Bool) → f b ≡ t → t || some f bs ≡ true → (some f bs ≡ true → (a : A) × List·Memᴰ a bs × (f a ≡ true)) → (a : A) × List·Memᴰ a (b ∷ bs) × (f a ≡ true)
+    go true e k ih = (b, List·Memᴰ·head refl, e)
+    go false e k ih = let r = ih k in (r .0, List·Memᴰ·tail (r .1), r .2)
+
+pub passes-some : {A : Type 0} (f : A → Bool) (xs : List A) {a : A} → List·Memᴰ a xs → f a ≡ true → some f xs ≡ true
+unfolding some
+passes-some f [] m h = absurd (List·Memᴰ·not-nil m)
+passes-some {A} f (b ∷ bs) {a} m h =
+    ⊎-elim (λ (p : a ≡ b). or-left (f b) (some f bs) (sym (ap f p) ∙ h))
+    (λ k. or-right (f b) (some f bs) (passes-some f bs k h))
+    (List·Memᴰ·cases-cons m)

@@ -1,0 +1,244 @@
+-- What the clock step and a drop do to the held reports and the placements, and the speeds placed in a cell of a phase.
+-- Assumes nothing.
+use mathlib.Core.Path.{_≡_, refl, sym, ap, _∙_}
+use mathlib.Core.Bool.{Bool, true, false, cond, _&&_, _||_}
+use mathlib.Core.List.{List, [], _∷_, _++_, List·Memᴰ, List·Memᴰ·head, List·Memᴰ·tail, List·Memᴰ·cases-cons, List·Memᴰ·not-nil}
+use mathlib.Core.Logic.{⊎-elim}
+use Prim.Native.Nat.{ℕ, suc, _≤_}
+use native.Mathlib.Omega.{arith}
+use lib.Dec.{eqb}
+use lib.IntN.{ℤ}
+use lib.ListN.{length}
+use borrow.Author.Tests.{eqb-true, eq-eqb}
+use Rattle.ints.specs.Whole.{eqZ}
+use Rattle.ints.proofs.Parts.{true-false}
+use Rattle.ints.proofs.Truth.{and-true, and-left}
+use Rattle.grid.specs.declared.Cell.{Cell}
+use Rattle.rows.specs.Row.{rowOfSpeed}
+use Rattle.rows.specs.Phases.{isLive}
+use Rattle.rows.specs.declared.Row.{Row}
+use Rattle.ledger.specs.Machine.{Held, Placement, placement, steppedHeld, newPlacements, livePlacements, isHeld, without, speedsPlaced}
+
+-- ---- held reports after the clock step
+
+abbrev pub steppedOne : ℕ → Held → Held
+steppedOne c h = cond (isLive c (h .phase)) h (record { report = h .report; phase = c })
+
+pub same-report : (c : ℕ) (h : Held) → steppedOne c h .report ≡ h .report
+same-report c h = go (isLive c (h .phase))
+  where
+    go : (t : Bool) → cond {A = Held} t h (record { report = h .report; phase = c }) .report ≡ h .report
+    go true = refl
+    go false = refl
+
+pub stepped-length : (c : ℕ) (hs : List Held) → length (steppedHeld c hs) ≡ length hs
+unfolding steppedHeld
+stepped-length c [] = refl
+stepped-length c (h ∷ hs) = ap suc (stepped-length c hs)
+
+pub stepped-held : (c : ℕ) (id : ℤ) (hs : List Held) → isHeld id (steppedHeld c hs) ≡ isHeld id hs
+unfolding steppedHeld isHeld
+stepped-held c id [] = refl
+stepped-held c id (h ∷ hs) = rw (same-report c h, stepped-held c id hs)
+
+-- each comes from one that was held
+pub stepped-from : {x : Held} (c : ℕ) (hs : List Held) → List·Memᴰ x (steppedHeld c hs) → (h : Held) × List·Memᴰ h hs × (x ≡ steppedOne c h)
+unfolding steppedHeld
+stepped-from c [] m = absurd (List·Memᴰ·not-nil m)
+stepped-from {x} c (h ∷ hs) m = ⊎-elim first (λ k. rest (stepped-from c hs k)) (List·Memᴰ·cases-cons m)
+  where
+    first : x ≡ steppedOne c h → (g : Held) × List·Memᴰ g (h ∷ hs) × (x ≡ steppedOne c g)
+    first e = (h, List·Memᴰ·head refl, e)
+
+    rest : (g : Held) × List·Memᴰ g hs × (x ≡ steppedOne c g) → (g : Held) × List·Memᴰ g (h ∷ hs) × (x ≡ steppedOne c g)
+    rest t = (t .0, List·Memᴰ·tail (t .1), t .2)
+
+-- ---- held reports after a drop
+
+pub without-member : {x : Held} (id : ℤ) (hs : List Held) → List·Memᴰ x (without id hs) → List·Memᴰ x hs
+unfolding without
+without-member id [] m = m
+without-member {x} id (h ∷ hs) m = go (eqZ (h .report .id) id) (without-member id hs) m
+  where
+    go : (t : Bool) → (List·Memᴰ x (without id hs) → List·Memᴰ x hs) → List·Memᴰ x (cond t hs (h ∷ without id hs)) → List·Memᴰ x (h ∷ hs)
+    go true f k = List·Memᴰ·tail k
+    go false f k = ⊎-elim (λ e. List·Memᴰ·head e) (λ n. List·Memᴰ·tail (f n)) (List·Memᴰ·cases-cons k)
+
+pub without-length : (id : ℤ) (hs : List Held) → isHeld id hs ≡ true → suc (length (without id hs)) ≡ length hs
+unfolding without isHeld
+without-length id [] h = absurd (true-false (sym h))
+without-length id (g ∷ hs) h = go (eqZ (g .report .id) id) (without-length id hs) h
+  where
+    go : (t : Bool) → (isHeld id hs ≡ true → suc (length (without id hs)) ≡ length hs) → t || isHeld id hs ≡ true → suc (length (cond t hs (g ∷ without id hs))) ≡ suc (length hs)
+    go true f k = refl
+    go false f k = ap suc (f k)
+
+pub without-few : (id : ℤ) (hs : List Held) → length (without id hs) ≤ length hs
+unfolding without
+without-few id [] = omega arith
+without-few id (g ∷ hs) = go (eqZ (g .report .id) id) (without-few id hs)
+  where
+    go : (t : Bool) → length (without id hs) ≤ length hs → length (cond t hs (g ∷ without id hs)) ≤ suc (length hs)
+    go true k = omega arith
+    go false k = omega arith
+
+pub without-held : (id other : ℤ) (hs : List Held) → isHeld other hs ≡ false → isHeld other (without id hs) ≡ false
+unfolding without isHeld
+without-held id other [] n = n
+without-held id other (g ∷ hs) n = go (eqZ (g .report .id) id) (without-held id other hs) (eqZ (g .report .id) other) n
+  where
+    rest : (t : Bool) → t || isHeld other hs ≡ false → isHeld other hs ≡ false
+    rest true k = absurd (true-false k)
+    rest false k = k
+
+    go : (t : Bool) → (isHeld other hs ≡ false → isHeld other (without id hs) ≡ false) → (u : Bool) → eqZ (g .report .id) other || isHeld other hs ≡ false → isHeld other (cond t hs (g ∷ without id hs)) ≡ false
+    go true f u k = rest (eqZ (g .report .id) other) k
+    go false f u k = both (eqZ (g .report .id) other) k
+      where
+        both : (v : Bool) → v || isHeld other hs ≡ false → v || isHeld other (without id hs) ≡ false
+        both true k₂ = k₂
+        both false k₂ = f k₂
+
+-- ---- placements after the clock step
+
+pub live-from : {a : Placement} (c : ℕ) (ps : List Placement) → List·Memᴰ a (livePlacements c ps) → List·Memᴰ a ps × (isLive c (a .phase) ≡ true)
+unfolding livePlacements
+live-from c [] m = absurd (List·Memᴰ·not-nil m)
+live-from {a} c (p ∷ ps) m = go (isLive c (p .phase)) refl (live-from c ps) m
+  where
+    more : List·Memᴰ a ps × (isLive c (a .phase) ≡ true) → List·Memᴰ a (p ∷ ps) × (isLive c (a .phase) ≡ true)
+    more t = (List·Memᴰ·tail (t .0), t .1)
+
+    go : (t : Bool) → isLive c (p .phase) ≡ t → (List·Memᴰ a (livePlacements c ps) → List·Memᴰ a ps × (isLive c (a .phase) ≡ true)) → List·Memᴰ a (cond t (p ∷ livePlacements c ps) (livePlacements c ps)) → List·Memᴰ a (p ∷ ps) × (isLive c (a .phase) ≡ true)
+    go true e f k =
+        ⊎-elim
+        (λ same. (List·Memᴰ·head same, ap (λ (x : Placement). isLive c (x .phase)) same ∙ e))
+        (λ n. more (f n))
+        (List·Memᴰ·cases-cons k)
+    go false e f k = more (f k)
+
+pub live-stays : {a : Placement} (c : ℕ) (ps : List Placement) → List·Memᴰ a ps → isLive c (a .phase) ≡ true → List·Memᴰ a (livePlacements c ps)
+unfolding livePlacements
+live-stays c [] m e = absurd (List·Memᴰ·not-nil m)
+live-stays {a} c (p ∷ ps) m e =
+    ⊎-elim first (λ k. rest (isLive c (p .phase)) (live-stays c ps k e)) (List·Memᴰ·cases-cons m)
+  where
+    first : a ≡ p → List·Memᴰ a (cond (isLive c (p .phase)) (p ∷ livePlacements c ps) (livePlacements c ps))
+    first same = rw (sym (ap (λ (x : Placement). isLive c (x .phase)) same) ∙ e) (List·Memᴰ·head same)
+
+    rest : (t : Bool) → List·Memᴰ a (livePlacements c ps) → List·Memᴰ a (cond t (p ∷ livePlacements c ps) (livePlacements c ps))
+    rest true k = List·Memᴰ·tail k
+    rest false k = k
+
+pub new-from : {a : Placement} (c : ℕ) (hs : List Held) → List·Memᴰ a (newPlacements c hs) → (h : Held) × List·Memᴰ h hs × (a ≡ placement c (h .report))
+unfolding newPlacements
+new-from c [] m = absurd (List·Memᴰ·not-nil m)
+new-from {a} c (h ∷ hs) m = go (isLive c (h .phase)) (new-from c hs) m
+  where
+    more : (g : Held) × List·Memᴰ g hs × (a ≡ placement c (g .report)) → (g : Held) × List·Memᴰ g (h ∷ hs) × (a ≡ placement c (g .report))
+    more t = (t .0, List·Memᴰ·tail (t .1), t .2)
+
+    first : a ≡ placement c (h .report) → (g : Held) × List·Memᴰ g (h ∷ hs) × (a ≡ placement c (g .report))
+    first e = (h, List·Memᴰ·head refl, e)
+
+    go : (t : Bool) → (List·Memᴰ a (newPlacements c hs) → (g : Held) × List·Memᴰ g hs × (a ≡ placement c (g .report))) → List·Memᴰ a (cond t (newPlacements c hs) (placement c (h .report) ∷ newPlacements c hs)) → (g : Held) × List·Memᴰ g (h ∷ hs) × (a ≡ placement c (g .report))
+    go true f k = more (f k)
+    go false f k = ⊎-elim first (λ n. more (f n)) (List·Memᴰ·cases-cons k)
+
+pub new-placed : {h : Held} (c : ℕ) (hs : List Held) → List·Memᴰ h hs → isLive c (h .phase) ≡ false → List·Memᴰ (placement c (h .report)) (newPlacements c hs)
+unfolding newPlacements
+new-placed c [] m e = absurd (List·Memᴰ·not-nil m)
+new-placed {h} c (g ∷ hs) m e =
+    ⊎-elim first (λ k. rest (isLive c (g .phase)) (new-placed c hs k e)) (List·Memᴰ·cases-cons m)
+  where
+    first : h ≡ g → List·Memᴰ (placement c (h .report)) (cond (isLive c (g .phase)) (newPlacements c hs) (placement c (g .report) ∷ newPlacements c hs))
+    first same =
+        rw (sym (ap (λ (x : Held). isLive c (x .phase)) same) ∙ e)
+        (List·Memᴰ·head (ap (λ (x : Held). placement c (x .report)) same))
+
+    rest : (t : Bool) → List·Memᴰ (placement c (h .report)) (newPlacements c hs) → List·Memᴰ (placement c (h .report)) (cond t (newPlacements c hs) (placement c (g .report) ∷ newPlacements c hs))
+    rest true k = k
+    rest false k = List·Memᴰ·tail k
+
+-- ---- the speeds placed in a cell of a phase
+
+abbrev pub isThere : ℕ → Cell → Placement → Bool
+isThere p c a = eqb (a .phase) p && (eqb (a .cell .column) (c .column) && eqb (a .cell .row) (c .row))
+
+pub speeds-append : (p : ℕ) (c : Cell) (xs ys : List Placement) → speedsPlaced p c (xs ++ ys) ≡ speedsPlaced p c xs ++ speedsPlaced p c ys
+unfolding speedsPlaced
+speeds-append p c [] ys = refl
+speeds-append p c (a ∷ xs) ys = go (isThere p c a) (speeds-append p c xs ys)
+  where
+    one : Row
+    one = rowOfSpeed (a .vx) (a .vy)
+
+    go : (t : Bool) → speedsPlaced p c (xs ++ ys) ≡ speedsPlaced p c xs ++ speedsPlaced p c ys → cond t (one ∷ speedsPlaced p c (xs ++ ys)) (speedsPlaced p c (xs ++ ys)) ≡ cond t (one ∷ speedsPlaced p c xs) (speedsPlaced p c xs) ++ speedsPlaced p c ys
+    go true e = ap (λ (l : List Row). one ∷ l) e
+    go false e = e
+
+-- those of a phase that lives on stay
+pub speeds-live : (now p : ℕ) (c : Cell) (ps : List Placement) → isLive now p ≡ true → speedsPlaced p c (livePlacements now ps) ≡ speedsPlaced p c ps
+unfolding speedsPlaced livePlacements
+speeds-live now p c [] live = refl
+speeds-live now p c (a ∷ ps) live = go (isLive now (a .phase)) refl (isThere p c a) refl (speeds-live now p c ps live)
+  where
+    one : Row
+    one = rowOfSpeed (a .vx) (a .vy)
+
+    go : (t : Bool) → isLive now (a .phase) ≡ t → (u : Bool) → isThere p c a ≡ u → speedsPlaced p c (livePlacements now ps) ≡ speedsPlaced p c ps → speedsPlaced p c (cond t (a ∷ livePlacements now ps) (livePlacements now ps)) ≡ cond u (one ∷ speedsPlaced p c ps) (speedsPlaced p c ps)
+    go true e u f k = rw (f, k)
+    go false e true f k =
+        let same = eqb-true (a .phase) p (and-left (eqb (a .phase) p) _ f) in
+        absurd (true-false (sym live ∙ ap (isLive now) (sym same) ∙ e))
+    go false e false f k = k
+
+-- a phase in which nothing is placed has none
+pub no-speeds : (p : ℕ) (c : Cell) (ps : List Placement) → ((a : Placement) → List·Memᴰ a ps → a .phase ≡ p → ⊥) → speedsPlaced p c ps ≡ []
+unfolding speedsPlaced
+no-speeds p c [] none = refl
+no-speeds p c (a ∷ ps) none = go (isThere p c a) refl (no-speeds p c ps (λ b m. none b (List·Memᴰ·tail m)))
+  where
+    go : (t : Bool) → isThere p c a ≡ t → speedsPlaced p c ps ≡ [] → cond t (rowOfSpeed (a .vx) (a .vy) ∷ speedsPlaced p c ps) (speedsPlaced p c ps) ≡ []
+    go true e k =
+        absurd (none a (List·Memᴰ·head refl) (eqb-true (a .phase) p (and-left (eqb (a .phase) p) _ e)))
+    go false e k = k
+
+-- each is the row of a placement's speeds
+pub speed-from : {r : Row} (p : ℕ) (c : Cell) (ps : List Placement) → List·Memᴰ r (speedsPlaced p c ps) → (a : Placement) × List·Memᴰ a ps × (r ≡ rowOfSpeed (a .vx) (a .vy))
+unfolding speedsPlaced
+speed-from p c [] m = absurd (List·Memᴰ·not-nil m)
+speed-from {r} p c (a ∷ ps) m = go (isThere p c a) (speed-from p c ps) m
+  where
+    more : (b : Placement) × List·Memᴰ b ps × (r ≡ rowOfSpeed (b .vx) (b .vy)) → (b : Placement) × List·Memᴰ b (a ∷ ps) × (r ≡ rowOfSpeed (b .vx) (b .vy))
+    more t = (t .0, List·Memᴰ·tail (t .1), t .2)
+
+    first : r ≡ rowOfSpeed (a .vx) (a .vy) → (b : Placement) × List·Memᴰ b (a ∷ ps) × (r ≡ rowOfSpeed (b .vx) (b .vy))
+    first e = (a, List·Memᴰ·head refl, e)
+
+    go : (t : Bool) → (List·Memᴰ r (speedsPlaced p c ps) → (b : Placement) × List·Memᴰ b ps × (r ≡ rowOfSpeed (b .vx) (b .vy))) → List·Memᴰ r (cond t (rowOfSpeed (a .vx) (a .vy) ∷ speedsPlaced p c ps) (speedsPlaced p c ps)) → (b : Placement) × List·Memᴰ b (a ∷ ps) × (r ≡ rowOfSpeed (b .vx) (b .vy))
+    go true f k = ⊎-elim first (λ n. more (f n)) (List·Memᴰ·cases-cons k)
+    go false f k = more (f k)
+
+-- and the speeds of a placement there are among them
+pub speed-placed : {a : Placement} (ps : List Placement) → List·Memᴰ a ps → List·Memᴰ (rowOfSpeed (a .vx) (a .vy)) (speedsPlaced (a .phase) (a .cell) ps)
+unfolding speedsPlaced
+speed-placed [] m = absurd (List·Memᴰ·not-nil m)
+speed-placed {a} (b ∷ ps) m = ⊎-elim first (λ k. rest (isThere (a .phase) (a .cell) b) (speed-placed ps k)) (List·Memᴰ·cases-cons m)
+  where
+    one : Row
+    one = rowOfSpeed (b .vx) (b .vy)
+
+    there : isThere (a .phase) (a .cell) a ≡ true
+    there =
+        and-true _ _ (eq-eqb (a .phase) (a .phase) refl)
+        (and-true _ _ (eq-eqb (a .cell .column) (a .cell .column) refl) (eq-eqb (a .cell .row) (a .cell .row) refl))
+
+    first : a ≡ b → List·Memᴰ (rowOfSpeed (a .vx) (a .vy)) (cond (isThere (a .phase) (a .cell) b) (one ∷ speedsPlaced (a .phase) (a .cell) ps) (speedsPlaced (a .phase) (a .cell) ps))
+    first same =
+        rw (sym (ap (isThere (a .phase) (a .cell)) same) ∙ there)
+        (List·Memᴰ·head (ap (λ (x : Placement). rowOfSpeed (x .vx) (x .vy)) same))
+
+    rest : (t : Bool) → List·Memᴰ (rowOfSpeed (a .vx) (a .vy)) (speedsPlaced (a .phase) (a .cell) ps) → List·Memᴰ (rowOfSpeed (a .vx) (a .vy)) (cond t (one ∷ speedsPlaced (a .phase) (a .cell) ps) (speedsPlaced (a .phase) (a .cell) ps))
+    rest true k = List·Memᴰ·tail k
+    rest false k = k

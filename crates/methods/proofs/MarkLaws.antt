@@ -1,0 +1,145 @@
+-- What the code of mark relies on: marking goes list by list, and a loop that marks what is left of a list marks the whole list.
+-- Assumes nothing.
+use mathlib.Core.Path.{_≡_, refl, sym, ap, _∙_, subst}
+use mathlib.Core.Bool.{Bool, true, false}
+use mathlib.Core.List.{List, [], _∷_, _++_}
+use mathlib.Core.Logic.{dite}
+use Prim.Native.Nat.{ℕ, suc, _+_, _≤_, _<_, _^_}
+use native.Mathlib.Decide.{ℕ-discrete}
+use native.Mathlib.Omega.{arith}
+use lib.IntN.{ℤ}
+use lib.ListN.{length, getD, set, replicate, length-append, length-replicate, getD-replicate}
+use lib.Seq.{getD-set-same, getD-set-other, ext-getD}
+use lib.Signed.{mag}
+use mir.Syntax.{w64}
+use mir.Val.{hbits}
+use Rattle.ints.proofs.Machine.{back, held}
+use Rattle.grid.specs.Units.{cells}
+use Rattle.grid.specs.Curve.{cell}
+use Rattle.grid.specs.declared.Cell.{Cell}
+use Rattle.grid.specs.declared.Rect.{Rect}
+use Rattle.rows.specs.Row.{isEmpty}
+use Rattle.methods.specs.Methods.{Rows, isReached, keepIf, reached}
+use Rattle.methods.specs.Reach.{movedCellMeets}
+use Rattle.methods.specs.Chosen.{withCells, IsAsk}
+use Rattle.methods.specs.Marked.{noMarks, Marked}
+use Rattle.methods.specs.declared.Block.{Block}
+use Rattle.methods.proofs.Passes.{rowFrom, row-before, row-none, rowsFrom, rows-before, rows-none}
+
+-- ---- clearing
+
+pub cleared-more : (marks : List ℕ) (n : ℕ) → n < length marks → ((k : ℕ) → k < n → getD marks k 0 ≡ 0) → (k : ℕ) → k < n + 1 → getD (set marks n 0) k 0 ≡ 0
+cleared-more marks n h before k l =
+    dite (ℕ-discrete k n)
+    (λ e. ap (λ (j : ℕ). getD (set marks n 0) j 0) e ∙ getD-set-same marks n 0 0 h)
+    (λ e. getD-set-other marks n k 0 0 e ∙ before k (omega arith))
+
+pub cleared-all : (marks : List ℕ) → length marks ≡ cells → ((k : ℕ) → k < cells → getD marks k 0 ≡ 0) → marks ≡ noMarks
+unfolding noMarks
+cleared-all marks e h =
+    ext-getD 0 marks (replicate cells 0) (e ∙ sym (length-replicate {A = ℕ} cells 0))
+    (λ i l. h i (omega arith) ∙ sym (getD-replicate {A = ℕ} cells i 0 0 (omega arith)))
+
+pub no-marks-length : {marks : List ℕ} → marks ≡ noMarks → length marks ≡ cells
+unfolding noMarks
+no-marks-length e = ap length e ∙ length-replicate {A = ℕ} cells 0
+
+-- ---- marking
+
+pub with-append : (marks : List ℕ) (xs ys : List Cell) → withCells marks (xs ++ ys) ≡ withCells (withCells marks xs) ys
+unfolding withCells
+with-append marks [] ys = refl
+with-append marks (x ∷ xs) ys = with-append (set marks _ 1) xs ys
+
+pub with-none : (marks : List ℕ) → withCells marks [] ≡ marks
+unfolding withCells
+with-none marks = refl
+
+pub marked-none : (marks : List ℕ) → Marked marks [] marks 0
+marked-none marks = record { marks-are = sym (with-none marks); size-is = refl }
+
+-- what is left of a list to mark, and to count
+pub record Left (marks₀ : List ℕ) (all : List Cell) (marks : List ℕ) (size : ℕ) (rest : List Cell) : Type 0 where
+  pub marks-left : withCells marks rest ≡ withCells marks₀ all
+  pub size-left : size + length rest ≡ length all
+
+pub left-all : (marks : List ℕ) (all : List Cell) → Left marks all marks 0 all
+left-all marks all = record { marks-left = refl; size-left = omega arith }
+
+module _ {marks₀ : List ℕ} {all : List Cell} {marks : List ℕ} {size : ℕ} {rest : List Cell} (l : Left marks₀ all marks size rest) where
+  pub left-fewer : (xs rest′ : List Cell) → rest ≡ xs ++ rest′ → size + length xs ≤ length all
+  left-fewer xs rest′ e = omega (arith, l .size-left, ap length e, length-append xs rest′)
+
+  pub left-next : (xs rest′ : List Cell) {after : List ℕ} {n : ℕ} → rest ≡ xs ++ rest′ → Marked marks xs after n → Left marks₀ all after (size + n) rest′
+  left-next xs rest′ {after} {n} e m =
+      record {
+        marks-left = ap (λ (ys : List ℕ). withCells ys rest′) (m .marks-are) ∙ sym (with-append marks xs rest′) ∙ sym (ap (withCells marks) e) ∙ l .marks-left;
+        size-left = omega (arith, l .size-left, m .size-is, ap length e, length-append xs rest′);
+      }
+
+  pub left-none : rest ≡ [] → Marked marks₀ all marks size
+  left-none e =
+      record {
+        marks-are = sym (with-none marks) ∙ sym (ap (withCells marks) e) ∙ l .marks-left;
+        size-is = omega (arith, l .size-left, ap length e);
+      }
+
+-- ---- the cells that are reached
+
+module _ (rows : Rows) (q : Rect) (d : ℤ) where
+  kept-append : (t : Bool) (c : Cell) (xs ys : List Cell) → keepIf t c (xs ++ ys) ≡ keepIf t c xs ++ ys
+  kept-append true c xs ys = refl
+  kept-append false c xs ys = refl
+
+  pub reached-append : (xs ys : List Cell) → reached rows q d (xs ++ ys) ≡ reached rows q d xs ++ reached rows q d ys
+  unfolding reached
+  reached-append [] ys = refl
+  reached-append (x ∷ xs) ys =
+      ap (keepIf (isReached rows q d x) x) (reached-append xs ys) ∙ kept-append (isReached rows q d x) x (reached rows q d xs) (reached rows q d ys)
+
+  pub reached-few : (cs : List Cell) → length (reached rows q d cs) ≤ length cs
+  unfolding reached
+  reached-few [] = omega arith
+  reached-few (c ∷ cs) = go (isReached rows q d c) (reached-few cs)
+    where
+      go : (t : Bool) → length (reached rows q d cs) ≤ length cs → length (keepIf t c (reached rows q d cs)) ≤ suc (length cs)
+      go true h = omega arith
+      go false h = omega arith
+
+  -- as the loops pass them
+  pub reached-row-before : (b : Block) (row column : ℕ) → column < b .«last_column» + 1 → reached rows q d (rowFrom b row column) ≡ reached rows q d (cell column row ∷ []) ++ reached rows q d (rowFrom b row (column + 1))
+  reached-row-before b row column h =
+      ap (reached rows q d) (row-before b row column h) ∙ reached-append (cell column row ∷ []) (rowFrom b row (column + 1))
+
+  pub reached-row-none : (b : Block) (row column : ℕ) → b .«last_column» + 1 ≤ column → reached rows q d (rowFrom b row column) ≡ []
+  unfolding reached
+  reached-row-none b row column h = rw (row-none b row column h)
+
+  pub reached-rows-before : (b : Block) (row : ℕ) → row < b .«last_row» + 1 → reached rows q d (rowsFrom b row) ≡ reached rows q d (rowFrom b row (b .«first_column»)) ++ reached rows q d (rowsFrom b (row + 1))
+  reached-rows-before b row h =
+      ap (reached rows q d) (rows-before b row h) ∙ reached-append (rowFrom b row (b .«first_column»)) (rowsFrom b (row + 1))
+
+  pub reached-rows-none : (b : Block) (row : ℕ) → b .«last_row» + 1 ≤ row → reached rows q d (rowsFrom b row) ≡ []
+  unfolding reached
+  reached-rows-none b row h = rw (rows-none b row h)
+
+  pub reached-one : (c : Cell) → isReached rows q d c ≡ true → reached rows q d (c ∷ []) ≡ c ∷ []
+  unfolding reached
+  reached-one c e = rw e
+
+  pub reached-not : (c : Cell) → isReached rows q d c ≡ false → reached rows q d (c ∷ []) ≡ []
+  unfolding reached
+  reached-not c e = rw e
+
+  pub empty-not-reached : (c : Cell) → isEmpty (rows c) ≡ true → false ≡ isReached rows q d c
+  empty-not-reached c e = rw e
+
+  pub reached-is : (c : Cell) → isEmpty (rows c) ≡ false → movedCellMeets c (rows c) q d ≡ isReached rows q d c
+  reached-is c e = rw e
+
+-- d as a call passes it
+pub ask-back : {q : Rect} {d : ℤ} → IsAsk q d → mag d < 2 ^ hbits w64 → IsAsk q (back w64 d)
+ask-back {q} {d} a h = rw (held w64 d h) a
+
+pub marked-held : {before after : List ℕ} {size : ℕ} (f : ℤ → List Cell) (d : ℤ) → mag d < 2 ^ hbits w64 → Marked before (f (back w64 d)) after size → Marked before (f d) after size
+marked-held {before} {after} {size} f d h m = subst (λ (z : ℤ). Marked before (f z) after size) (held w64 d h) m

@@ -1,0 +1,51 @@
+-- `methods::mark::is_reached` meets its contract: the row is not empty, and the cell moved by it meets the rectangle.
+-- Assumes nothing.
+use mathlib.Core.Path.{_≡_, sym, ap, _∙_}
+use denote.Ref.{now}
+use mir.Syntax.{w64}
+use Rattle.ints.proofs.Machine.{tested₁}
+use Rattle.rows.specs.Row.{isEmpty, validRow}
+use Rattle.rows.specs.declared.Row.{Row}
+use Rattle.methods.specs.Reach.{movedCellMeets}
+use Rattle.methods.specs.Chosen.{rowsOfSlot}
+use Rattle.methods.proofs.MarkLaws.{empty-not-reached, reached-is, ask-back}
+use Rattle.methods.proofs.ChosenLaws.{slot-valid}
+use borrow.Author.Needs.{needs}
+use Rattle.methods.proofs.mark.is_reached.Statement.{statement}
+use Rattle.methods.proofs.mark.is_reached.Tie as tie
+
+row-of-cell-requires : tie.Need-row-of-cell-requires
+row-of-cell-requires c κs = search needs
+
+is-empty-requires : tie.Need-is-empty-requires
+is-empty-requires c κs = search needs
+
+-- what the test of the row says of the cell's row
+emptiness : (c : tie.After-is-empty) → c .is-empty .result ≡ isEmpty (rowsOfSlot (now (c .before .before .args .table)) (c .before .before .args .slot) (c .before .before .args .c))
+emptiness c = c .is-empty .ensures ∙ ap isEmpty (c .before .row-of-cell .ensures)
+
+returns : tie.Need-returns
+returns c =
+    let e = c .before in
+    let a = e .before .before .args in
+    empty-not-reached (rowsOfSlot (now (a .table)) (a .slot)) (a .q) (a .d) (a .c) (sym (emptiness e) ∙ c .if1 .taken)
+
+moved-cell-meets-requires : tie.Need-moved-cell-meets-requires
+moved-cell-meets-requires c κs =
+    let r = c .before .before in
+    let a = r .before in
+    (a .pre .2, ask-back (a .pre .1) (a .fits .d .sfits), ap validRow (r .row-of-cell .ensures) ∙ slot-valid (a .pre .0) (a .args .c) (a .pre .2))
+
+returns-2 : tie.Need-returns-2
+returns-2 c =
+    let e = c .before .before in
+    let r = e .before in
+    let a = r .before .args in
+    tested₁ w64 (movedCellMeets (a .c) (r .row-of-cell .result) (a .q)) (c .moved-cell-meets .result) (a .d) (c .moved-cell-meets .ensures) (r .before .fits .d .sfits)
+    ∙ ap (λ (row : Row). movedCellMeets (a .c) row (a .q) (a .d)) (r .row-of-cell .ensures)
+    ∙ reached-is (rowsOfSlot (now (a .table)) (a .slot)) (a .q) (a .d) (a .c) (sym (emptiness e) ∙ c .before .if1 .left)
+
+pub is-reached-spec : {M : Type 1} → statement M
+is-reached-spec =
+    tie.close
+    (tie.spec row-of-cell-requires is-empty-requires returns moved-cell-meets-requires returns-2)

@@ -1,0 +1,84 @@
+-- `methods::mark::mark_block` meets its contract. The invariant: the cells of the rows from `row` on are left to mark and to count. The measure is how
+-- many rows they are.
+-- Assumes nothing.
+use mathlib.Core.Path.{_≡_}
+use Prim.Native.Nat.{_+_, _-_}
+use native.Mathlib.Omega.{arith}
+use denote.Ref.{now}
+use lib.ListN.{length}
+use Rattle.grid.specs.Units.{cells}
+use Rattle.methods.specs.Reach.{cellsOf}
+use Rattle.methods.proofs.Passes.{rowFrom, rowsFrom, rows-before, rows-none, cells-few}
+use Rattle.methods.proofs.MarkLaws.{Left, left-all, left-fewer, left-next, left-none}
+use borrow.Author.Needs.{needs}
+use Rattle.methods.proofs.mark.mark_block.Statement.{statement}
+use Rattle.methods.proofs.mark.mark_block.Tie as tie
+
+abbrev Inv-loop : tie.InvT-loop
+Inv-loop b marks₀ row₀ size₀ marks row size = (length marks ≡ cells) × Left marks₀ (cellsOf b) marks size (rowsFrom b row)
+
+abbrev μ-loop : tie.MeasureT-loop
+μ-loop b marks₀ row₀ size₀ marks row size = b .«last_row» + 1 - row
+
+loop-holds : tie.Need-loop-holds Inv-loop μ-loop
+unfolding cellsOf
+loop-holds c =
+    let a = c .before in
+    (a .pre .1, left-all (now (a .args .marks)) (cellsOf (a .args .b)))
+
+add-if1 : tie.Need-add-if1 Inv-loop μ-loop
+add-if1 c = omega arith
+
+mark-row-requires : tie.Need-mark-row-requires Inv-loop μ-loop
+mark-row-requires c κs =
+    let h = c .before .before .before in
+    let a = h .before .before in
+    (a .pre .0, omega arith, h .loop .inv .0)
+
+add-size : tie.Need-add-size Inv-loop μ-loop
+add-size c =
+    let h = c .before .before .before .before .before .before in
+    let a = h .before .before in
+    let b = a .args .b in
+    let row = h .loop .row in
+    omega
+    (arith, cells-few b (a .pre .0), c .before .before .mark-row .ensures .size-is, left-fewer (h .loop .inv .1) (rowFrom b row (b .«first_column»)) (rowsFrom b (row + 1)) (rows-before b row (omega arith)))
+
+add-row : tie.Need-add-row Inv-loop μ-loop
+add-row c = omega arith
+
+loop-less : tie.Need-loop-less Inv-loop μ-loop
+loop-less c = omega arith
+
+loop-again : tie.Need-loop-again Inv-loop μ-loop
+loop-again c =
+    let h = c .before .before .before .before .before .before in
+    let b = h .before .before .args .b in
+    let row = h .loop .row in (
+      search needs,
+      left-next (h .loop .inv .1) (rowFrom b row (b .«first_column»)) (rowsFrom b (row + 1)) (rows-before b row (omega arith)) (c .before .before .mark-row .ensures),
+    )
+
+same-length : tie.Need-same-length Inv-loop μ-loop
+same-length c = search needs
+
+returns : tie.Need-returns Inv-loop μ-loop
+returns c =
+    let h = c .before .before in
+    left-none (h .loop .inv .1) (rows-none (h .before .before .args .b) (h .loop .row) (omega arith))
+
+pub mark-block-spec : {M : Type 1} → statement M
+mark-block-spec =
+    tie.close
+    (tie.spec
+    Inv-loop
+    μ-loop
+    loop-holds
+    add-if1
+    mark-row-requires
+    add-size
+    add-row
+    loop-less
+    loop-again
+    same-length
+    returns)

@@ -1,0 +1,87 @@
+-- `methods::mark::mark_row` meets its contract. The invariant: the cells from `column` on are left to mark and to count. The measure is how many they
+-- are.
+-- Assumes nothing.
+use mathlib.Core.Path.{_≡_, refl}
+use mathlib.Core.List.{[], _∷_}
+use Prim.Native.Nat.{_+_, _-_}
+use native.Mathlib.Omega.{arith}
+use denote.Ref.{now}
+use lib.ListN.{length}
+use Rattle.grid.specs.Units.{cells}
+use Rattle.grid.specs.Curve.{cell}
+use Rattle.methods.proofs.Passes.{rowFrom, row-before, row-none, row-few}
+use Rattle.methods.proofs.MarkLaws.{Left, left-all, left-fewer, left-next, left-none}
+use borrow.Author.Needs.{needs}
+use Rattle.methods.proofs.mark.mark_row.Statement.{statement}
+use Rattle.methods.proofs.mark.mark_row.Tie as tie
+
+abbrev Inv-loop : tie.InvT-loop
+Inv-loop b row marks₀ column₀ size₀ marks column size = (length marks ≡ cells) × Left marks₀ (rowFrom b row column₀) marks size (rowFrom b row column)
+
+abbrev μ-loop : tie.MeasureT-loop
+μ-loop b row marks₀ column₀ size₀ marks column size = b .«last_column» + 1 - column
+
+loop-holds : tie.Need-loop-holds Inv-loop μ-loop
+loop-holds c =
+    let a = c .before in
+    (a .pre .2, left-all (now (a .args .marks)) (rowFrom (a .args .b) (a .args .row) (a .args .b .«first_column»)))
+
+add-if1 : tie.Need-add-if1 Inv-loop μ-loop
+add-if1 c = omega arith
+
+mark-cell-requires : tie.Need-mark-cell-requires Inv-loop μ-loop
+mark-cell-requires c κs =
+    let h = c .before .before .before in
+    let a = h .before .before in
+    (record { column-on = omega arith; row-on = a .pre .1 }, h .loop .inv .0)
+
+add-size : tie.Need-add-size Inv-loop μ-loop
+add-size c =
+    let h = c .before .before .before .before .before .before in
+    let a = h .before .before in
+    let b = a .args .b in
+    let column = h .loop .column in
+    omega
+    (arith, row-few b (a .args .row) (a .pre .0), left-fewer (h .loop .inv .1) (cell column (a .args .row) ∷ []) (rowFrom b (a .args .row) (column + 1)) (row-before b (a .args .row) column (omega arith)))
+
+add-column : tie.Need-add-column Inv-loop μ-loop
+add-column c = omega arith
+
+loop-less : tie.Need-loop-less Inv-loop μ-loop
+loop-less c = omega arith
+
+loop-again : tie.Need-loop-again Inv-loop μ-loop
+loop-again c =
+    let h = c .before .before .before .before .before .before in
+    let a = h .before .before in
+    let b = a .args .b in
+    let column = h .loop .column in (
+      search needs,
+      left-next (h .loop .inv .1) (cell column (a .args .row) ∷ []) (rowFrom b (a .args .row) (column + 1)) (row-before b (a .args .row) column (omega arith))
+          (record { marks-are = c .before .before .mark-cell .ensures; size-is = refl }),
+    )
+
+same-length : tie.Need-same-length Inv-loop μ-loop
+same-length c = search needs
+
+returns : tie.Need-returns Inv-loop μ-loop
+returns c =
+    let h = c .before .before in
+    let a = h .before .before in
+    left-none (h .loop .inv .1) (row-none (a .args .b) (a .args .row) (h .loop .column) (omega arith))
+
+pub mark-row-spec : {M : Type 1} → statement M
+mark-row-spec =
+    tie.close
+    (tie.spec
+    Inv-loop
+    μ-loop
+    loop-holds
+    add-if1
+    mark-cell-requires
+    add-size
+    add-column
+    loop-less
+    loop-again
+    same-length
+    returns)

@@ -1,0 +1,68 @@
+// The bounds of the rows of a block, from one slot of a lent table.
+ghost use mathlib.Core.Path.{_≡_};
+ghost use mathlib.Core.List.{map};
+ghost use Prim.Native.Nat.{_<_};
+ghost use lib.ListN.{length};
+ghost use Rattle.grid.specs.Units.{side};
+ghost use Rattle.grid.specs.Places.{OnGrid};
+ghost use Rattle.rows.specs.Row.{boundsOf};
+ghost use Rattle.rows.specs.Phases.{slots};
+ghost use Rattle.rows.specs.Table.{tableWords};
+ghost use Rattle.methods.specs.Reach.{columnsOf, cellsOfRow};
+ghost use Rattle.methods.specs.Methods.{boundsIn, phaseBounds};
+ghost use Rattle.methods.specs.Chosen.{rowsOfSlot};
+ghost use Rattle.methods.specs.Small.{BlockOnGrid};
+use crate::Block;
+use grid::Cell;
+use rows::Row;
+
+// The row of a cell.
+pub fn row_of_cell(table: &[i16], slot: usize, c: Cell) -> Row
+    requires { ⌜ (length (now table) ≡ tableWords) × (slot < slots) × OnGrid c ⌝ }
+    ensures { λ r. ⌜ r ≡ rowsOfSlot (now (table .entry)) slot c ⌝ }
+{
+    Row::read(table, slot, grid::number_of_cell(c))
+}
+
+// The bounds of a block's cells of one row.
+fn row_bounds(table: &[i16], slot: usize, b: Block, row: usize) -> Row
+    requires { ⌜ (length (now table) ≡ tableWords) × (slot < slots) × BlockOnGrid b × (row < side) ⌝ }
+    ensures { λ r. ⌜ r ≡ boundsOf (map (rowsOfSlot (now (table .entry)) slot) (cellsOfRow row (b .«first_column») (columnsOf b))) ⌝ }
+{
+    let mut bounds = Row::empty();
+    let mut column = b.last_column + 1;
+    while b.first_column < column {
+        column -= 1;
+        bounds = row_of_cell(
+            table,
+            slot,
+            Cell {
+                column: column,
+                row: row,
+            },
+        ).join(bounds);
+    }
+    bounds
+}
+
+// The bounds of a block's rows, in one pass over its cells.
+pub fn block_bounds(table: &[i16], slot: usize, b: Block) -> Row
+    requires { ⌜ (length (now table) ≡ tableWords) × (slot < slots) × BlockOnGrid b ⌝ }
+    ensures { λ r. ⌜ r ≡ boundsIn (rowsOfSlot (now (table .entry)) slot) b ⌝ }
+{
+    let mut bounds = Row::empty();
+    let mut row = b.last_row + 1;
+    while b.first_row < row {
+        row -= 1;
+        bounds = row_bounds(table, slot, b, row).join(bounds);
+    }
+    bounds
+}
+
+// The bounds of all rows of a slot, in one pass by curve number.
+pub fn phase_bounds(table: &[i16], slot: usize) -> Row
+    requires { ⌜ (length (now table) ≡ tableWords) × (slot < slots) ⌝ }
+    ensures { λ r. ⌜ r ≡ phaseBounds (rowsOfSlot (now (table .entry)) slot) ⌝ }
+{
+    rows::slot_bounds(table, slot)
+}

@@ -1,0 +1,142 @@
+// The four methods, each by its number, over the rows of one slot of a lent table.
+ghost use mathlib.Core.Path.{_≡_};
+ghost use mathlib.Core.Bool.{true};
+ghost use lib.ListN.{length};
+ghost use Rattle.grid.specs.Units.{cells};
+ghost use Rattle.rows.specs.Row.{emptyRow, validRow};
+ghost use Rattle.methods.specs.Methods.{found, cellsFound, unlessMissing, expandedBlock, naiveBlock, iterated, mostRounds};
+ghost use Rattle.methods.specs.Chosen.{rowsOfSlot, IsSlot, IsAsk, ChosenBy};
+ghost use Rattle.methods.specs.Small.{BlockOnGrid};
+ghost use Rattle.methods.specs.Marked.{noMarks, Marked, FoundIs, SearchIs};
+use crate::Block;
+use crate::Chosen;
+use crate::FoundBlock;
+use crate::Searched;
+use crate::bounds::block_bounds;
+use crate::bounds::phase_bounds;
+use crate::mark::clear;
+use crate::mark::mark_block;
+use crate::mark::mark_reached;
+use crate::reach::block_of;
+use crate::reach::expand;
+use grid::Rect;
+use rows::Row;
+
+// The most rounds of the iterative method.
+const MOST_ROUNDS: usize = 64;
+
+// The block of the rectangle expanded by bounds.
+fn expanded_block(bounds: Row, q: Rect, d: i64) -> FoundBlock
+    requires { ⌜ IsAsk q d × (validRow bounds ≡ true) ⌝ }
+    ensures { λ r. ⌜ FoundIs r (expandedBlock bounds q d) ⌝ }
+{
+    FoundBlock {
+        missing: bounds.is_empty(),
+        block: block_of(expand(q, bounds, d)),
+    }
+}
+
+// Marks the cells of a block, if there is one, and counts them.
+fn mark_found(f: FoundBlock, marks: &mut [u8]) -> usize
+    requires { ⌜ BlockOnGrid (f .block) × (length (now marks) ≡ cells) ⌝ }
+    ensures { λ r. ⌜ Marked (now (marks .entry)) (cellsFound (unlessMissing (f .missing) (f .block))) (now (marks .exit)) r ⌝ }
+{
+    if f.missing {
+        return 0;
+    }
+    mark_block(f.block, marks)
+}
+
+// The rounds of the iterative method, from the naive block.
+fn search(table: &[i16], slot: usize, q: Rect, d: i64, naive: Block) -> Searched
+    requires { ⌜ IsSlot (now table) slot × IsAsk q d × BlockOnGrid naive ⌝ }
+    ensures { λ r. ⌜ SearchIs r (iterated mostRounds (rowsOfSlot (now (table .entry)) slot) q d emptyRow naive 0) ⌝ }
+{
+    let mut before = Row::empty();
+    let mut block = naive;
+    let mut rounds = 0;
+    while rounds < MOST_ROUNDS {
+        let bounds = block_bounds(table, slot, block);
+        if bounds.is_empty() {
+            return Searched {
+                found: FoundBlock {
+                    missing: true,
+                    block: block,
+                },
+                rounds: rounds + 1,
+            };
+        }
+        if bounds.same(before) {
+            break;
+        }
+        before = bounds;
+        block = block_of(expand(q, bounds, d));
+        rounds += 1;
+    }
+    Searched {
+        found: FoundBlock {
+            missing: false,
+            block: block,
+        },
+        rounds: rounds,
+    }
+}
+
+// The choice of a method where the naive block is found: no mark is set yet.
+fn choose_within(
+    table: &[i16],
+    slot: usize,
+    method: usize,
+    q: Rect,
+    d: i64,
+    naive: Block,
+    marks: &mut [u8],
+) -> Chosen
+    requires { ⌜ IsSlot (now table) slot × IsAsk q d × BlockOnGrid naive × (naiveBlock (rowsOfSlot (now table) slot) q d ≡ found naive) × (now marks ≡ noMarks) ⌝ }
+    ensures { λ r. ⌜ ChosenBy method (now (table .entry)) slot q d (now (marks .exit)) (r .size) (r .rounds) ⌝ }
+{
+    if method == 0 {
+        return Chosen {
+            size: mark_block(naive, marks),
+            rounds: 0,
+        };
+    }
+    if method == 1 {
+        let narrowed = expanded_block(block_bounds(table, slot, naive), q, d);
+        return Chosen {
+            size: mark_found(narrowed, marks),
+            rounds: 0,
+        };
+    }
+    if method == 2 {
+        let s = search(table, slot, q, d, naive);
+        return Chosen {
+            size: mark_found(s.found, marks),
+            rounds: s.rounds,
+        };
+    }
+    Chosen {
+        size: mark_reached(table, slot, naive, q, d, marks),
+        rounds: 0,
+    }
+}
+
+// The choice of a method, as marks by curve number. Every number from 3 on is the optimal method.
+pub fn choose(
+    table: &[i16],
+    slot: usize,
+    method: usize,
+    q: Rect,
+    d: i64,
+    marks: &mut [u8],
+) -> Chosen
+    requires { ⌜ IsSlot (now table) slot × IsAsk q d × (length (now marks) ≡ cells) ⌝ }
+    ensures { λ r. ⌜ ChosenBy method (now (table .entry)) slot q d (now (marks .exit)) (r .size) (r .rounds) ⌝ }
+{
+    clear(marks);
+    let naive = expanded_block(phase_bounds(table, slot), q, d);
+    if naive.missing {
+        return Chosen { size: 0, rounds: 0 };
+    }
+    choose_within(table, slot, method, q, d, naive.block, marks)
+}

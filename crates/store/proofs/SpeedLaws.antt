@@ -1,0 +1,181 @@
+-- What widening the rows of some records leaves in a row: it is joined with the bounds of the speeds of those records that lie there, in whatever
+-- order they come.
+-- Assumes nothing.
+use mathlib.Core.Path.{_≡_, refl, sym, ap, _∙_}
+use mathlib.Core.Bool.{Bool, true, false, cond, _&&_}
+use mathlib.Core.List.{List, [], _∷_, List·Memᴰ, List·Memᴰ·head, List·Memᴰ·tail}
+use mathlib.Core.Logic.{_⊎_, inl, inr, _≢_}
+use Prim.Native.Nat.{ℕ, _≤_, _<_}
+use native.Mathlib.Omega.{arith}
+use lib.Dec.{eqb}
+use lib.IntN.{ℤ, natAbs}
+use lib.ListN.{length}
+use borrow.Author.Tests.{eqb-true, eqb-false, ne-eqb}
+use Rattle.ints.proofs.Truth.{and-left, and-right}
+use Rattle.grid.specs.Units.{cells}
+use Rattle.rows.specs.Phases.{slots, slotOf}
+use Rattle.rows.specs.Row.{rowOfSpeed, joined, widened, validRow, boundsOf}
+use Rattle.rows.specs.Table.{tableWords, rowAt, withSpeed}
+use Rattle.rows.specs.declared.Row.{Row}
+use Rattle.rows.proofs.RowLaws.{joined-comm, joined-assoc, joined-empty-right, widened-valid}
+use Rattle.rows.proofs.TableLaws.{row-written, row-other, length-with-row}
+use Rattle.store.specs.Order.{slotOfKey, numberOfKey, precedes}
+use Rattle.store.specs.Changes.{inserted, placedIn, livesOn, replaced, withSpeeds}
+use Rattle.store.specs.declared.Record.{Record}
+use Rattle.store.proofs.SoundLawsKeys.{slot-of-key-in}
+
+abbrev speedOf : Record → Row
+speedOf r = rowOfSpeed (r .report .vx) (r .report .vy)
+
+-- whether a record lies in a row of the table
+abbrev pub liesAt : ℕ → ℕ → Record → Bool
+liesAt slot number r = eqb (slotOfKey (r .key)) slot && eqb (numberOfKey (r .key)) number
+
+-- the speeds of the records that lie there
+unfoldable pub speedsAt : ℕ → ℕ → List Record → List Row
+speedsAt slot number [] = []
+speedsAt slot number (r ∷ rs) =
+    cond (liesAt slot number r) (rowOfSpeed (r .report .vx) (r .report .vy) ∷ speedsAt slot number rs) (speedsAt slot number rs)
+
+-- a key of the three slots, speeds in range
+pub record Placeable (r : Record) : Type 0 where
+  pub slot-on : slotOfKey (r .key) < slots
+  pub small-x : natAbs (r .report .vx) ≤ 500
+  pub small-y : natAbs (r .report .vy) ≤ 500
+
+pub with-speeds-length : (t : List ℤ) (rs : List Record) → length (withSpeeds t rs) ≡ length t
+unfolding withSpeeds
+with-speeds-length t [] = refl
+with-speeds-length t (r ∷ rs) =
+    let slot = slotOfKey (r .key) in
+    let number = numberOfKey (r .key) in
+    with-speeds-length (withSpeed t slot number (r .report .vx) (r .report .vy)) rs
+    ∙ length-with-row t slot number (widened (rowAt t slot number) (r .report .vx) (r .report .vy))
+
+-- ---- one record
+
+module _ (t : List ℤ) (r : Record) (slot number : ℕ) (sized : length t ≡ tableWords) (placeable : Placeable r) (here : number < cells) where
+  after-one : List ℤ
+  after-one = withSpeed t (slotOfKey (r .key)) (numberOfKey (r .key)) (r .report .vx) (r .report .vy)
+
+  row-after : (b : Bool) → liesAt slot number r ≡ b → rowAt after-one slot number ≡ cond b (widened (rowAt t slot number) (r .report .vx) (r .report .vy)) (rowAt t slot number)
+  unfolding after-one
+  row-after true e =
+      let s = eqb-true (slotOfKey (r .key)) slot (and-left _ (eqb (numberOfKey (r .key)) number) e) in
+      let n = eqb-true (numberOfKey (r .key)) number (and-right (eqb (slotOfKey (r .key)) slot) _ e) in
+      let new = widened (rowAt t (slotOfKey (r .key)) (numberOfKey (r .key))) (r .report .vx) (r .report .vy) in
+      ap (rowAt after-one slot) (sym n)
+      ∙ ap (λ (x : ℕ). rowAt after-one x (numberOfKey (r .key))) (sym s)
+      ∙ row-written t (slotOfKey (r .key)) (numberOfKey (r .key)) new sized (placeable .slot-on) (omega arith)
+      ∙ (λ i. widened (rowAt t (s i) (n i)) (r .report .vx) (r .report .vy))
+  row-after false e =
+      row-other t (slotOfKey (r .key)) (numberOfKey (r .key)) (widened (rowAt t (slotOfKey (r .key)) (numberOfKey (r .key))) (r .report .vx) (r .report .vy)) slot number (omega arith) here
+      (apart (eqb (slotOfKey (r .key)) slot) refl e)
+    where
+      apart : (b : Bool) → eqb (slotOfKey (r .key)) slot ≡ b → b && eqb (numberOfKey (r .key)) number ≡ false → (slot ≢ slotOfKey (r .key)) ⊎ (number ≢ numberOfKey (r .key))
+      apart true f g = inr (λ same. eqb-false (numberOfKey (r .key)) number g (sym same))
+      apart false f g = inl (λ same. eqb-false (slotOfKey (r .key)) slot f (sym same))
+
+  valid-after : validRow (rowAt t slot number) ≡ true → validRow (rowAt after-one slot number) ≡ true
+  valid-after v = go (liesAt slot number r) refl
+    where
+      go : (b : Bool) → liesAt slot number r ≡ b → validRow (rowAt after-one slot number) ≡ true
+      go true e =
+          ap validRow (row-after true e) ∙ widened-valid (rowAt t slot number) (r .report .vx) (r .report .vy) v (placeable .small-x) (placeable .small-y) .0
+      go false e = ap validRow (row-after false e) ∙ v
+
+-- ---- some records
+
+pub row-with-speeds : (t : List ℤ) (rs : List Record) (slot number : ℕ) → length t ≡ tableWords → ((r : Record) → List·Memᴰ r rs → Placeable r) → number < cells → validRow (rowAt t slot number) ≡ true → rowAt (withSpeeds t rs) slot number ≡ joined (rowAt t slot number) (boundsOf (speedsAt slot number rs))
+unfolding withSpeeds speedsAt boundsOf after-one
+row-with-speeds t [] slot number sized each h v = sym (joined-empty-right (rowAt t slot number) v)
+row-with-speeds t (r ∷ rs) slot number sized each h v =
+    row-with-speeds (after-one t r slot number sized p h) rs slot number
+    (length-with-row t (slotOfKey (r .key)) (numberOfKey (r .key)) (widened (rowAt t (slotOfKey (r .key)) (numberOfKey (r .key))) (r .report .vx) (r .report .vy)) ∙ sized)
+    (λ q m. each q (List·Memᴰ·tail m))
+    h
+    (valid-after t r slot number sized p h v)
+    ∙ go (liesAt slot number r) refl
+  where
+    p : Placeable r
+    p = each r (List·Memᴰ·head refl)
+
+    rest : List Row
+    rest = speedsAt slot number rs
+
+    go : (b : Bool) → liesAt slot number r ≡ b → joined (rowAt (after-one t r slot number sized p h) slot number) (boundsOf rest) ≡ joined (rowAt t slot number) (boundsOf (cond b (speedOf r ∷ rest) rest))
+    go true e =
+        ap (λ (x : Row). joined x (boundsOf rest)) (row-after t r slot number sized p h true e)
+        ∙ joined-assoc (rowAt t slot number) (speedOf r) (boundsOf rest)
+    go false e = ap (λ (x : Row). joined x (boundsOf rest)) (row-after t r slot number sized p h false e)
+
+-- ---- the records that a clock step places anew
+
+module _ (c later slot number : ℕ) where
+  -- the bounds of their speeds in a row
+  abbrev pub newBounds : List Record → Row
+  newBounds rs = boundsOf (speedsAt slot number (replaced c later rs))
+
+  -- with one record more
+  abbrev pub withOne : Record → Row → Row
+  withOne r row =
+      cond (livesOn c later r) row (cond (liesAt slot number (placedIn later (r .report))) (joined (rowOfSpeed (r .report .vx) (r .report .vy)) row) row)
+
+  pub bounds-first : (r : Record) (rs : List Record) → newBounds (r ∷ rs) ≡ withOne r (newBounds rs)
+  unfolding speedsAt replaced boundsOf
+  bounds-first r rs = go (livesOn c later r) (liesAt slot number (placedIn later (r .report)))
+    where
+      new : Record
+      new = placedIn later (r .report)
+
+      inner : (b : Bool) → boundsOf (cond b (speedOf new ∷ speedsAt slot number (replaced c later rs)) (speedsAt slot number (replaced c later rs))) ≡ cond b (joined (speedOf new) (newBounds rs)) (newBounds rs)
+      inner true = refl
+      inner false = refl
+
+      go : (a b : Bool) → boundsOf (speedsAt slot number (cond a (replaced c later rs) (new ∷ replaced c later rs))) ≡ cond a (newBounds rs) (cond (liesAt slot number new) (joined (speedOf r) (newBounds rs)) (newBounds rs))
+      go true b = refl
+      go false b = inner (liesAt slot number new)
+
+  with-swap : (r a : Record) (row : Row) → withOne r (withOne a row) ≡ withOne a (withOne r row)
+  with-swap r a row =
+      go (livesOn c later r) (livesOn c later a) (liesAt slot number (placedIn later (r .report))) (liesAt slot number (placedIn later (a .report)))
+    where
+      go : (u v m n : Bool) → cond u (cond v row (cond n (joined (speedOf a) row) row)) (cond m (joined (speedOf r) (cond v row (cond n (joined (speedOf a) row) row))) (cond v row (cond n (joined (speedOf a) row) row))) ≡ cond v (cond u row (cond m (joined (speedOf r) row) row)) (cond n (joined (speedOf a) (cond u row (cond m (joined (speedOf r) row) row))) (cond u row (cond m (joined (speedOf r) row) row)))
+      go true v m n = refl
+      go false true m n = refl
+      go false false true true =
+          sym (joined-assoc (speedOf r) (speedOf a) row)
+          ∙ ap (λ (x : Row). joined x row) (joined-comm (speedOf r) (speedOf a))
+          ∙ joined-assoc (speedOf a) (speedOf r) row
+      go false false true false = refl
+      go false false false n = refl
+
+  -- wherever the record is put in
+  pub bounds-inserted : (r : Record) (rs : List Record) → newBounds (inserted r rs) ≡ withOne r (newBounds rs)
+  unfolding inserted
+  bounds-inserted r [] = bounds-first r []
+  bounds-inserted r (a ∷ rs) = go (precedes r a) (bounds-inserted r rs)
+    where
+      go : (t : Bool) → newBounds (inserted r rs) ≡ withOne r (newBounds rs) → newBounds (cond t (r ∷ a ∷ rs) (a ∷ inserted r rs)) ≡ withOne r (newBounds (a ∷ rs))
+      go true k = bounds-first r (a ∷ rs)
+      go false k =
+          bounds-first a (inserted r rs)
+          ∙ ap (withOne a) k
+          ∙ with-swap a r (newBounds rs)
+          ∙ ap (withOne r) (sym (bounds-first a rs))
+
+  -- none of them lies in another slot
+  pub none-elsewhere : (rs : List Record) → slotOf later ≢ slot → speedsAt slot number (replaced c later rs) ≡ []
+  unfolding speedsAt replaced
+  none-elsewhere [] n = refl
+  none-elsewhere (r ∷ rs) n = go (livesOn c later r) (none-elsewhere rs n)
+    where
+      new : Record
+      new = placedIn later (r .report)
+
+      far : eqb (slotOfKey (new .key)) slot ≡ false
+      far = ne-eqb (slotOfKey (new .key)) slot (λ e. n (sym (slot-of-key-in later (r .report)) ∙ e))
+
+      go : (a : Bool) → speedsAt slot number (replaced c later rs) ≡ [] → speedsAt slot number (cond a (replaced c later rs) (new ∷ replaced c later rs)) ≡ []
+      go true k = k
+      go false k = rw (far, k)

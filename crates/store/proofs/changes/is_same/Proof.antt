@@ -1,0 +1,17 @@
+-- `store::changes::is_same` meets its contract: neither is less than the other.
+-- Assumes nothing.
+use Rattle.ints.specs.Whole.{eqZ}
+use Rattle.ints.proofs.Machine.{reads}
+use Rattle.store.proofs.changes.is_same.Statement.{statement}
+use Rattle.store.proofs.changes.is_same.Tie as tie
+
+returns : tie.Need-returns
+unfolding eqZ
+returns c = search reads
+
+returns-2 : tie.Need-returns-2
+unfolding eqZ
+returns-2 c = search reads
+
+pub is-same-spec : {M : Type 1} → statement M
+is-same-spec = tie.close (tie.spec returns returns-2)

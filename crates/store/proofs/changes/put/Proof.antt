@@ -1,0 +1,84 @@
+-- `store::changes::put` meets its contract: the records from the place on move up by one record, and the new one is written there.
+-- Assumes nothing.
+use borrow.Author.Needs.{needs}
+use native.Mathlib.Omega.{arith}
+use borrow.Rule.Slice.PartMut.{same-len-mid}
+use lib.IntN.{ℤ}
+use Prim.Native.Nat.{_+_, _*_, _-_}
+use lib.ListN.{length-take, length-drop}
+use Rattle.store.proofs.ChangeLaws.{insert-done, words-room, within}
+use Rattle.store.proofs.changes.put.Statement.{statement}
+use Rattle.store.proofs.changes.put.Tie as tie
+
+held-of-requires : tie.Need-held-of-requires
+held-of-requires c κs = omega (arith, words-room _ (c .before .pre .0))
+
+place-of-requires : tie.Need-place-of-requires
+place-of-requires c κs = omega (arith, words-room _ (c .before .before .before .pre .0))
+
+mul-start : tie.Need-mul-start
+mul-start c = omega (arith, words-room _ (c .before .before .before .before .pre .0), c .before .before .held-of .ensures, within _ _ _ (c .place-of .ensures))
+
+add-start : tie.Need-add-start
+add-start c = omega (arith, words-room _ (c .before .before .before .before .pre .0), c .before .before .held-of .ensures, within _ _ _ (c .place-of .ensures))
+
+mul-end : tie.Need-mul-end
+mul-end c = omega (arith, words-room _ (c .before .before .before .before .pre .0), c .before .before .held-of .ensures, within _ _ _ (c .place-of .ensures))
+
+add-end : tie.Need-add-end
+add-end c = omega (arith, words-room _ (c .before .before .before .before .pre .0), c .before .before .held-of .ensures, within _ _ _ (c .place-of .ensures))
+
+add-end-2 : tie.Need-add-end-2
+add-end-2 c = omega (arith, words-room _ (c .before .before .before .before .pre .0), c .before .before .held-of .ensures, within _ _ _ (c .place-of .ensures))
+
+mul-move-up : tie.Need-mul-move-up
+mul-move-up c = omega (arith, words-room _ (c .before .before .before .before .pre .0), c .before .before .held-of .ensures, within _ _ _ (c .place-of .ensures))
+
+sub-move-up : tie.Need-sub-move-up
+sub-move-up c = omega (arith, words-room _ (c .before .before .before .before .pre .0), c .before .before .held-of .ensures, within _ _ _ (c .place-of .ensures))
+
+part-move-up-start : tie.Need-part-move-up-start
+part-move-up-start c = omega (arith, words-room _ (c .before .before .before .before .pre .0), c .before .before .held-of .ensures, within _ _ _ (c .place-of .ensures))
+
+part-move-up-end : tie.Need-part-move-up-end
+part-move-up-end c = omega (arith, words-room _ (c .before .before .before .before .pre .0), c .before .before .held-of .ensures, within _ _ _ (c .place-of .ensures))
+
+move-up-requires : tie.Need-move-up-requires
+move-up-requires c κs = simp (length-take, length-drop) (omega (arith, words-room _ (c .before .before .before .before .before .pre .0), c .before .before .before .held-of .ensures, within _ _ _ (c .before .place-of .ensures)))
+
+write-record-requires : tie.Need-write-record-requires
+write-record-requires c κs = let k = 7 * c .before .before .before .before .place-of .result + 7 in omega (arith, same-len-mid {X = ℤ} k (7 * c .before .before .before .before .before .before .held-of .result + 7 + 7 - k) (c .before .before .before .before .before .before .before .before .args .store .now) (c .before .before .move-up .last .0) (c .before .before .move-up .kept .0), words-room _ (c .before .before .before .before .before .before .before .before .pre .0), c .before .before .before .before .before .before .held-of .ensures, within _ _ _ (c .before .before .before .before .place-of .ensures))
+
+add-set-held : tie.Need-add-set-held
+add-set-held c = omega (arith, words-room _ (c .before .before .before .before .before .before .before .before .before .before .before .pre .0), c .before .before .before .before .before .before .before .before .before .held-of .ensures)
+
+set-held-requires : tie.Need-set-held-requires
+set-held-requires c κs = let k = 7 * c .before .before .before .before .before .before .before .place-of .result + 7 in omega (arith, c .before .before .write-record .kept .0, same-len-mid {X = ℤ} k (7 * c .before .before .before .before .before .before .before .before .before .held-of .result + 7 + 7 - k) (c .before .before .before .before .before .before .before .before .before .before .before .args .store .now) (c .before .before .before .before .before .move-up .last .0) (c .before .before .before .before .before .move-up .kept .0), words-room _ (c .before .before .before .before .before .before .before .before .before .before .before .pre .0), c .before .before .before .before .before .before .before .before .before .held-of .ensures, c .before .before .before .before .before .before .before .before .before .before .before .pre .1)
+
+same-length : tie.Need-same-length
+same-length c = search needs
+
+returns : tie.Need-returns
+returns c = search insert-done
+
+pub put-spec : {M : Type 1} → statement M
+put-spec =
+    tie.close
+    (tie.spec
+    held-of-requires
+    place-of-requires
+    mul-start
+    add-start
+    mul-end
+    add-end
+    add-end-2
+    mul-move-up
+    sub-move-up
+    part-move-up-start
+    part-move-up-end
+    move-up-requires
+    write-record-requires
+    add-set-held
+    set-held-requires
+    same-length
+    returns)

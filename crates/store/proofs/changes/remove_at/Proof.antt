@@ -1,0 +1,72 @@
+-- `store::changes::remove_at` meets its contract: the records after the one taken out move down by one record.
+-- Assumes nothing.
+use borrow.Author.Needs.{needs}
+use native.Mathlib.Omega.{arith}
+use borrow.Rule.Slice.PartMut.{same-len-mid}
+use lib.IntN.{ℤ}
+use Prim.Native.Nat.{_+_, _*_, _-_}
+use lib.ListN.{length-take, length-drop}
+use Rattle.store.proofs.ChangeLaws.{words-room, remove-at-done}
+use Rattle.store.proofs.changes.remove_at.Statement.{statement}
+use Rattle.store.proofs.changes.remove_at.Tie as tie
+
+held-of-requires : tie.Need-held-of-requires
+held-of-requires c κs = omega (arith, words-room _ (c .before .pre .0))
+
+mul-start : tie.Need-mul-start
+mul-start c = omega (arith, words-room _ (c .before .before .pre .0), c .held-of .ensures)
+
+add-start : tie.Need-add-start
+add-start c = omega (arith, words-room _ (c .before .before .pre .0), c .held-of .ensures)
+
+mul-end : tie.Need-mul-end
+mul-end c = omega (arith, words-room _ (c .before .before .pre .0), c .held-of .ensures)
+
+add-end : tie.Need-add-end
+add-end c = omega (arith, words-room _ (c .before .before .pre .0), c .held-of .ensures)
+
+mul-close-up : tie.Need-mul-close-up
+mul-close-up c = omega (arith, words-room _ (c .before .before .pre .0), c .held-of .ensures)
+
+sub-close-up : tie.Need-sub-close-up
+sub-close-up c = omega (arith, words-room _ (c .before .before .pre .0), c .held-of .ensures)
+
+part-close-up-start : tie.Need-part-close-up-start
+part-close-up-start c = omega (arith, words-room _ (c .before .before .pre .0), c .held-of .ensures)
+
+part-close-up-end : tie.Need-part-close-up-end
+part-close-up-end c = omega (arith, words-room _ (c .before .before .pre .0), c .held-of .ensures)
+
+close-up-requires : tie.Need-close-up-requires
+close-up-requires c κs = simp (length-take, length-drop) (omega (arith, words-room _ (c .before .before .before .pre .0), c .before .held-of .ensures))
+
+sub-set-held : tie.Need-sub-set-held
+sub-set-held c = omega arith
+
+set-held-requires : tie.Need-set-held-requires
+set-held-requires c κs = let k = 7 * c .before .before .before .before .before .before .args .i + 7 in omega (arith, same-len-mid {X = ℤ} k (7 * c .before .before .before .before .held-of .result + 7 - k) (c .before .before .before .before .before .before .args .store .now) (c .before .before .close-up .last .0) (c .before .before .close-up .kept .0), words-room _ (c .before .before .before .before .before .before .pre .0), c .before .before .before .before .held-of .ensures)
+
+same-length : tie.Need-same-length
+same-length c = search needs
+
+returns : tie.Need-returns
+returns c = search remove-at-done
+
+pub remove-at-spec : {M : Type 1} → statement M
+remove-at-spec =
+    tie.close
+    (tie.spec
+    held-of-requires
+    mul-start
+    add-start
+    mul-end
+    add-end
+    mul-close-up
+    sub-close-up
+    part-close-up-start
+    part-close-up-end
+    close-up-requires
+    sub-set-held
+    set-held-requires
+    same-length
+    returns)

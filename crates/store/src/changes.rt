@@ -1,0 +1,315 @@
+// The changes of a store: a record put at its place, the record of an id taken out, the time set. Each keeps the words of the store in order.
+ghost use mathlib.Core.Path.{_≡_};
+ghost use mathlib.Core.Bool.{true};
+ghost use mathlib.Core.List.{_++_};
+ghost use Prim.Native.Nat.{_<_, _≤_, _+_, _-_, _*_};
+ghost use lib.IntN.{pos};
+ghost use lib.Signed.{ltZ};
+ghost use lib.ListN.{length, take, drop, set, replicate};
+ghost use Rattle.ints.specs.Whole.{eqZ};
+ghost use Rattle.grid.specs.Units.{capacity};
+ghost use Rattle.grid.specs.Reports.{isTime, isSpeed, inRange};
+ghost use Rattle.rows.specs.Table.{tableWords, withSpeed};
+ghost use Rattle.store.specs.Records.{recordWords, nowOf, heldOf, readRecords, recordsOf, wordsOf, storeOf};
+ghost use Rattle.store.specs.Order.{slotOfKey, numberOfKey, precedes, hasId};
+ghost use Rattle.store.specs.Soundness.{isRanged, IsStore};
+ghost use Rattle.store.specs.Changes.{inserted, insertedAll, removed, placedIn, livesOn, kept, replaced, steppedRecords, withSpeeds};
+ghost use Rattle.store.specs.Walks.{HasWords, placeOf, indexOf, Taken, PlaceAsked};
+use super::soundness::key_in;
+use super::soundness::number_of_key;
+use super::soundness::phase_of_key;
+use super::soundness::slot_of_key;
+use crate::RECORD_WORDS;
+use crate::Record;
+use crate::held_of;
+use grid::Report;
+use rows::is_live;
+use rows::widen_row;
+
+pub fn is_below(a: i32, b: i32) -> bool
+    ensures { λ r. ⌜ r ≡ ltZ a b ⌝ }
+{
+    a < b
+}
+
+pub fn is_same(a: i32, b: i32) -> bool
+    ensures { λ r. ⌜ r ≡ eqZ a b ⌝ }
+{
+    a <= b && b <= a
+}
+
+// Whether record a stands before record b: by key, then id.
+pub fn is_before(a: Record, b: Record) -> bool
+    ensures { λ r. ⌜ r ≡ precedes a b ⌝ }
+{
+    if is_below(a.key, b.key) {
+        return true;
+    }
+    if is_same(a.key, b.key) {
+        return is_below(a.report.id, b.report.id);
+    }
+    false
+}
+
+// How many records stand before the one of an id; all of them where none has it.
+fn index_of(store: &[i32], id: i32) -> usize
+    requires { ⌜ recordWords * heldOf (now store) + recordWords ≤ length (now store) ⌝ }
+    ensures { λ r. ⌜ r ≡ indexOf id (recordsOf (now (store .entry))) ⌝ }
+{
+    let n = held_of(store);
+    let mut i = 0;
+    while i < n {
+        let a = Record::read_from(store, RECORD_WORDS * i + RECORD_WORDS);
+        if is_same(a.report.id, id) {
+            return i;
+        }
+        i += 1;
+    }
+    i
+}
+
+// How many records stand before the place of r.
+fn place_of(store: &[i32], r: Record) -> usize
+    requires { ⌜ recordWords * heldOf (now store) + recordWords ≤ length (now store) ⌝ }
+    ensures { λ p. ⌜ p ≡ placeOf r (recordsOf (now (store .entry))) ⌝ }
+{
+    let n = held_of(store);
+    let mut i = 0;
+    while i < n {
+        let a = Record::read_from(store, RECORD_WORDS * i + RECORD_WORDS);
+        if is_before(r, a) {
+            return i;
+        }
+        i += 1;
+    }
+    i
+}
+
+pub fn has_id(store: &[i32], id: i32) -> bool
+    requires { ⌜ IsStore (now store) ⌝ }
+    ensures { λ r. ⌜ r ≡ hasId id (recordsOf (now (store .entry))) ⌝ }
+{
+    index_of(store, id) < held_of(store)
+}
+
+// Writes a record over the seven words at k.
+fn write_record(words: &mut [i32], k: usize, r: Record)
+    requires { ⌜ k + recordWords ≤ length (now words) ⌝ }
+    ensures { λ u. ⌜ now (words .exit) ≡ take k (now (words .entry)) ++ (wordsOf r ++ drop (k + recordWords) (now (words .entry))) ⌝ }
+{
+    let report = r.report;
+    let key = r.key;
+    let id = report.id;
+    let t = report.t;
+    let x = report.x;
+    let y = report.y;
+    let vx = report.vx;
+    let vy = report.vy;
+    words[k] = key;
+    words[k + 1] = id;
+    words[k + 2] = t;
+    words[k + 3] = x;
+    words[k + 4] = y;
+    words[k + 5] = vx;
+    words[k + 6] = vy;
+}
+
+// Moves every word but the last seven up by seven places; the first seven stay too.
+fn move_up(words: &mut [i32])
+    requires { ⌜ recordWords ≤ length (now words) ⌝ }
+    ensures { λ u. ⌜ now (words .exit) ≡ take recordWords (now (words .entry)) ++ take (length (now (words .entry)) - recordWords) (now (words .entry)) ⌝ }
+{
+    let mut i = words.len();
+    while RECORD_WORDS < i {
+        i -= 1;
+        let v = words[i - RECORD_WORDS];
+        words[i] = v;
+    }
+}
+
+// Moves every word but the first seven down by seven places; the last seven stay too.
+fn move_down(words: &mut [i32])
+    requires { ⌜ recordWords ≤ length (now words) ⌝ }
+    ensures { λ u. ⌜ now (words .exit) ≡ drop recordWords (now (words .entry)) ++ drop (length (now (words .entry)) - recordWords) (now (words .entry)) ⌝ }
+{
+    let end = words.len() - RECORD_WORDS;
+    let mut i = 0;
+    while i < end {
+        let v = words[i + RECORD_WORDS];
+        words[i] = v;
+        i += 1;
+    }
+}
+
+fn zero_record() -> Record
+    ensures { λ r. ⌜ wordsOf r ≡ replicate recordWords (pos 0) ⌝ }
+{
+    let report = Report {
+        id: 0,
+        t: 0,
+        x: 0,
+        y: 0,
+        vx: 0,
+        vy: 0,
+    };
+    Record {
+        key: 0,
+        report: report,
+    }
+}
+
+// Takes the first record out of some words: the others move down, and the last seven words are zeroed.
+fn close_up(words: &mut [i32])
+    requires { ⌜ recordWords ≤ length (now words) ⌝ }
+    ensures { λ u. ⌜ now (words .exit) ≡ drop recordWords (now (words .entry)) ++ replicate recordWords (pos 0) ⌝ }
+{
+    let end = words.len() - RECORD_WORDS;
+    move_down(words);
+    write_record(words, end, zero_record());
+}
+
+// Sets the count of floats held, in record 0.
+fn set_held(store: &mut [i32], n: usize)
+    requires { ⌜ (1 < length (now store)) × (n ≤ capacity) ⌝ }
+    ensures { λ u. ⌜ now (store .exit) ≡ set (now (store .entry)) 1 (pos n) ⌝ }
+{
+    let w = n as i32;
+    store[1] = w;
+}
+
+// Puts a record at its place: the records after it move up.
+fn put(store: &mut [i32], r: Record)
+    requires { ⌜ (HasWords (now store)) × (length (recordsOf (now store)) < capacity) ⌝ }
+    ensures { λ u. ⌜ now (store .exit) ≡ storeOf (nowOf (now (store .entry))) (inserted r (recordsOf (now (store .entry)))) ⌝ }
+{
+    let n = held_of(store);
+    let start = RECORD_WORDS * place_of(store, r) + RECORD_WORDS;
+    let end = RECORD_WORDS * n + RECORD_WORDS + RECORD_WORDS;
+    move_up(&mut store[start..end]);
+    write_record(store, start, r);
+    set_held(store, n + 1);
+}
+
+pub fn insert(store: &mut [i32], r: Record)
+    requires { ⌜ (IsStore (now store)) × (isRanged r ≡ true) × (length (recordsOf (now store)) < capacity) ⌝ }
+    ensures { λ u. ⌜ now (store .exit) ≡ storeOf (nowOf (now (store .entry))) (inserted r (recordsOf (now (store .entry)))) ⌝ }
+{
+    put(store, r);
+}
+
+// Takes the record with i before it out: the records after it move down.
+fn remove_at(store: &mut [i32], i: usize)
+    requires { ⌜ (HasWords (now store)) × (i < heldOf (now store)) ⌝ }
+    ensures { λ u. ⌜ now (store .exit) ≡ storeOf (nowOf (now (store .entry))) (take i (recordsOf (now (store .entry))) ++ drop (i + 1) (recordsOf (now (store .entry)))) ⌝ }
+{
+    let n = held_of(store);
+    let start = RECORD_WORDS * i + RECORD_WORDS;
+    let end = RECORD_WORDS * n + RECORD_WORDS;
+    close_up(&mut store[start..end]);
+    set_held(store, n - 1);
+}
+
+// Takes the record of an id out, where there is one.
+pub fn remove(store: &mut [i32], id: i32)
+    requires { ⌜ IsStore (now store) ⌝ }
+    ensures { λ u. ⌜ now (store .exit) ≡ storeOf (nowOf (now (store .entry))) (removed id (recordsOf (now (store .entry)))) ⌝ }
+{
+    let i = index_of(store, id);
+    if held_of(store) <= i {
+        return;
+    }
+    remove_at(store, i);
+}
+
+pub fn set_now(store: &mut [i32], t: i32)
+    requires { ⌜ IsStore (now store) ⌝ }
+    ensures { λ u. ⌜ now (store .exit) ≡ storeOf t (recordsOf (now (store .entry))) ⌝ }
+{
+    store[0] = t;
+}
+
+// Whether the phase of a key lives on when the current phase goes from c to later.
+fn lives_on(c: usize, later: usize, r: Record) -> bool
+    requires { ⌜ c ≤ 277777 ⌝ }
+    ensures { λ b. ⌜ b ≡ livesOn c later r ⌝ }
+{
+    is_live(later, phase_of_key(c, r.key))
+}
+
+// A report placed in phase p.
+fn place_in(p: usize, r: Report) -> Record
+    requires { ⌜ (p ≤ 277777) × (inRange r ≡ true) × (isTime (r .t) ≡ true) ⌝ }
+    ensures { λ a. ⌜ a ≡ placedIn p r ⌝ }
+{
+    Record {
+        key: key_in(p, r),
+        report: r,
+    }
+}
+
+// Takes the records of phases that do not live on out of the store, and writes them to `dead`, placed in the phase `later`. Gives back how many.
+fn take_dead(store: &mut [i32], c: usize, later: usize, dead: &mut [i32]) -> usize
+    requires { ⌜ (IsStore (now store)) × (c ≤ 277777) × (later ≤ 277777) × (length (now dead) ≡ 7168) ⌝ }
+    ensures { λ m. ⌜ now (store .exit) ≡ storeOf (nowOf (now (store .entry))) (kept c later (recordsOf (now (store .entry)))) ⌝ }
+    ensures { λ m. ⌜ Taken c later (recordsOf (now (store .entry))) m (now (dead .exit)) ⌝ }
+{
+    let mut n = held_of(store);
+    let mut m = 0;
+    let mut i = 0;
+    while i < n {
+        let r = Record::read_from(store, RECORD_WORDS * i + RECORD_WORDS);
+        if lives_on(c, later, r) {
+            i += 1;
+        } else {
+            write_record(dead, RECORD_WORDS * m, place_in(later, r.report));
+            remove_at(store, i);
+            m += 1;
+            n -= 1;
+        }
+    }
+    m
+}
+
+// A speed in 16 bits.
+fn speed(v: i32) -> i16
+    requires { ⌜ isSpeed v ≡ true ⌝ }
+    ensures { λ r. ⌜ r ≡ v ⌝ }
+{
+    v as i16
+}
+
+// The row of a record's cell widened by its speeds.
+fn widen(table: &mut [i16], r: Record)
+    requires { ⌜ (length (now table) ≡ tableWords) × (isRanged r ≡ true) ⌝ }
+    ensures { λ u. ⌜ now (table .exit) ≡ withSpeed (now (table .entry)) (slotOfKey (r .key)) (numberOfKey (r .key)) (r .report .vx) (r .report .vy) ⌝ }
+{
+    let vx = speed(r.report.vx);
+    let vy = speed(r.report.vy);
+    widen_row(table, slot_of_key(r.key), number_of_key(r.key), vx, vy);
+}
+
+// Puts the first m records of `dead` into the store, and widens the row of each.
+fn place_dead(store: &mut [i32], table: &mut [i16], dead: &[i32], m: usize)
+    requires { ⌜ PlaceAsked (now store) (now table) (now dead) m ⌝ }
+    ensures { λ u. ⌜ now (store .exit) ≡ storeOf (nowOf (now (store .entry))) (insertedAll (readRecords m (now (dead .entry))) (recordsOf (now (store .entry)))) ⌝ }
+    ensures { λ u. ⌜ now (table .exit) ≡ withSpeeds (now (table .entry)) (readRecords m (now (dead .entry))) ⌝ }
+{
+    let mut j = 0;
+    while j < m {
+        let r = Record::read_from(dead, RECORD_WORDS * j);
+        put(store, r);
+        widen(table, r);
+        j += 1;
+    }
+}
+
+// The current phase goes from c to later: the records that do not live on are placed in the phase `later`, and the row of each is widened.
+pub fn step_records(store: &mut [i32], table: &mut [i16], c: usize, later: usize)
+    requires { ⌜ (IsStore (now store)) × (length (now table) ≡ tableWords) × (c ≤ 277777) × (later ≤ 277777) ⌝ }
+    ensures { λ u. ⌜ now (store .exit) ≡ storeOf (nowOf (now (store .entry))) (steppedRecords c later (recordsOf (now (store .entry)))) ⌝ }
+    ensures { λ u. ⌜ now (table .exit) ≡ withSpeeds (now (table .entry)) (replaced c later (recordsOf (now (store .entry)))) ⌝ }
+{
+    let mut dead = [0i32; 7168];
+    let m = take_dead(store, c, later, &mut dead);
+    place_dead(store, table, &dead, m);
+}
