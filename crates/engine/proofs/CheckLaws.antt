@@ -9,16 +9,21 @@ use native.Mathlib.Omega.{arith}
 use lib.Dec.{eqb}
 use lib.IntN.{ℤ}
 use lib.ListN.{length}
-use borrow.Author.Tests.{eqb-true, not-true, not-false}
-use Rattle.ints.proofs.Truth.{and-left, and-right}
+use borrow.Author.Tests.{not-false}
+use Rattle.ints.proofs.Parts.{true-false}
 use Rattle.store.specs.Records.{storeWords, nowOf, recordsOf}
 use Rattle.store.proofs.RecordLaws.{store-length}
 use Rattle.store.specs.Soundness.{isSound, IsStore}
+use Rattle.store.specs.Order.{hasId}
+use Rattle.store.specs.Changes.{removed, steppedRecords}
+use Rattle.store.proofs.KeepLaws.{removed-length, has-stepped, stepped-length}
 use Rattle.store.proofs.SoundLaws as Sound
+use Rattle.rows.specs.Phases.{phaseOf}
+use Rattle.ledger.specs.Answers.{isAccepted}
 use Rattle.ledger.specs.Refusals.{Check, check, unless, firstToFail}
 use Rattle.ledger.specs.declared.Answer.{Answer}
 use Rattle.ledger.specs.declared.Answer.the-variants.{Accepted, WrongLength, Unsound}
-use Rattle.engine.specs.Index.{wrongLength, unsound, lentChecks}
+use Rattle.engine.specs.Index.{wrongLength, unsound, lentChecks, recordsAfterStep}
 
 pub fails : (b : Bool) (a : Answer) (cs : List Check) (accepted : Answer) → b ≡ true → a ≡ firstToFail (check b a ∷ cs) accepted
 unfolding firstToFail
@@ -34,3 +39,48 @@ accepts accepted r e = e
 
 pub store-words-of : (s : List ℤ) → IsStore s → length s ≡ storeWords
 store-words-of s h = ap length (h .words) ∙ store-length (nowOf s) (recordsOf s) (h .few)
+
+-- ---- what an accepted chain of checks says of each
+
+pub accepted-passed : (b : Bool) (a : Answer) (cs : List Check) (accepted : Answer) → isAccepted a ≡ false → isAccepted (firstToFail (check b a ∷ cs) accepted) ≡ true → (b ≡ false) × (isAccepted (firstToFail cs accepted) ≡ true)
+unfolding firstToFail
+accepted-passed true a cs accepted n h = absurd (true-false (sym h ∙ n))
+accepted-passed false a cs accepted n h = (refl, h)
+
+-- ---- the first two checks, of the lent words
+
+abbrev Lent : List ℤ → List ℤ → Answer
+Lent s t = firstToFail (lentChecks s t []) (Accepted 0)
+
+module _ (s t : List ℤ) (r : Answer) (e : r ≡ firstToFail (lentChecks s t []) (Accepted 0)) where
+  pub lent-refused : (more : List Check) (accepted : Answer) → isAccepted r ≡ false → r ≡ firstToFail (lentChecks s t more) accepted
+  unfolding firstToFail
+  lent-refused more accepted n = e ∙ go (wrongLength s t) (unsound s t) (sym (ap isAccepted e) ∙ n)
+    where
+      go : (a b : Bool) → isAccepted (unless a WrongLength (unless b Unsound (Accepted 0))) ≡ false → unless a WrongLength (unless b Unsound (Accepted 0)) ≡ unless a WrongLength (unless b Unsound (firstToFail more accepted))
+      go true b h = refl
+      go false true h = refl
+      go false false h = absurd (true-false h)
+
+  lent-passes : isAccepted r ≡ true → (wrongLength s t ≡ false) × (unsound s t ≡ false)
+  lent-passes n =
+      let x = accepted-passed (wrongLength s t) WrongLength (check (unsound s t) Unsound ∷ []) (Accepted 0) refl (sym (ap isAccepted e) ∙ n) in
+      (x .0, accepted-passed (unsound s t) Unsound [] (Accepted 0) refl (x .1) .0)
+
+  pub lent-sound : isAccepted r ≡ true → isSound s t ≡ true
+  lent-sound n = not-false (isSound s t) (lent-passes n .1)
+
+  pub lent-passed : (more : List Check) (accepted a : Answer) → isAccepted r ≡ true → a ≡ firstToFail more accepted → a ≡ firstToFail (lentChecks s t more) accepted
+  lent-passed more accepted a n h =
+      passes (wrongLength s t) WrongLength (check (unsound s t) Unsound ∷ more) accepted a (lent-passes n .0)
+      (passes (unsound s t) Unsound more accepted a (lent-passes n .1) h)
+
+pub sound-is-store : (s t : List ℤ) → isSound s t ≡ true → IsStore s
+sound-is-store s t h = Sound.is-store s (Sound.sound-parts s t h .store)
+
+-- a drop leaves one float fewer, whatever the step before it moves
+pub drop-count : (s : List ℤ) (id time : ℤ) → hasId id (recordsOf s) ≡ true → suc (length (removed id (recordsAfterStep s time))) ≡ length (recordsOf s)
+unfolding recordsAfterStep
+drop-count s id time h =
+    removed-length id (steppedRecords (phaseOf (nowOf s)) (phaseOf time) (recordsOf s)) (has-stepped id (phaseOf (nowOf s)) (phaseOf time) (recordsOf s) ∙ h)
+    ∙ stepped-length (phaseOf (nowOf s)) (phaseOf time) (recordsOf s)

@@ -3,19 +3,19 @@
 use mathlib.Core.Path.{_≡_}
 use mathlib.Core.Bool.{true, false}
 use mathlib.Core.List.{List}
-use Prim.Native.Nat.{ℕ, _<_}
+use Prim.Native.Nat.{ℕ, suc, _<_, _≤_}
 use lib.IntN.{ℤ}
-use lib.ListN.{length}
+use lib.ListN.{length, replicate}
 use lib.Signed.{leZ}
 use Rattle.grid.specs.Reports.{isTime, inRange}
-use Rattle.grid.specs.Units.{capacity}
+use Rattle.grid.specs.Units.{capacity, lastId}
 use Rattle.grid.specs.declared.Rect.{Rect}
 use Rattle.grid.specs.declared.Report.{Report}
 use Rattle.rows.specs.Phases.{phaseOf, isLive}
-use Rattle.rows.specs.Table.{tableWords}
+use Rattle.rows.specs.Table.{tableWords, withNewlyLiveEmpty}
 use Rattle.store.specs.Records.{nowOf, recordsOf, storeOf}
 use Rattle.store.specs.Soundness.{isSound, IsStore}
-use Rattle.store.specs.Changes.{inserted, placedIn}
+use Rattle.store.specs.Changes.{inserted, placedIn, steppedRecords, replaced, withSpeeds}
 use Rattle.ledger.specs.declared.Answer.{Answer}
 use Rattle.ledger.specs.Refusals.{badAskTime, badAsk}
 use Rattle.engine.specs.Index.{Outcome, AskOutcome, recordsAfterStep, tableAfterStep, widenedBy}
@@ -41,6 +41,17 @@ pub record Stepped (s t : List ℤ) (time : ℤ) (s′ t′ : List ℤ) : Type 0
   pub store-is : s′ ≡ storeOf time (recordsAfterStep s time)
   pub table-is : t′ ≡ tableAfterStep s t time
 
+-- a store and a table over which the current phase goes from c to later, and what they are then
+pub record CanMove (s t : List ℤ) (c later : ℕ) : Type 0 where
+  pub is-store : IsStore s
+  pub whole-table : length t ≡ tableWords
+  pub small-c : c ≤ 277777
+  pub small-later : later ≤ 277777
+
+pub record Moved (s t : List ℤ) (c later : ℕ) (s′ t′ : List ℤ) : Type 0 where
+  pub store-is : s′ ≡ storeOf (nowOf s) (steppedRecords c later (recordsOf s))
+  pub table-is : t′ ≡ withSpeeds (withNewlyLiveEmpty t c later) (replaced c later (recordsOf s))
+
 -- a store with room and a report in range
 pub record CanPlace (s t : List ℤ) (r : Report) : Type 0 where
   pub is-store : IsStore s
@@ -65,3 +76,7 @@ pub record CanAskIn (s t : List ℤ) (method asked : ℤ) (q : Rect) (p : ℕ) (
   pub can-ask : CanAsk s t method asked q
   pub live : isLive (phaseOf (nowOf s)) p ≡ true
   pub all-marks : length found ≡ 65536
+
+-- no id marked
+unfoldable pub noIds : List ℕ
+noIds = replicate (suc lastId) 0

@@ -1,3 +1,4 @@
 pub mod Index
 pub mod Gives
+pub mod Counted
 pub mod Claims

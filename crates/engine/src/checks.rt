@@ -12,9 +12,10 @@ ghost use Rattle.grid.specs.Reports.{isTime, isId, isPosition};
 ghost use Rattle.store.specs.Records.{recordsOf, nowOf};
 ghost use Rattle.store.specs.Soundness.{IsStore};
 ghost use Rattle.store.specs.Changes.{removed};
+ghost use Rattle.ledger.specs.Answers.{isAccepted};
 ghost use Rattle.ledger.specs.Refusals.{check, firstToFail, badStepTime, badAskTime, badAsk, isRectangle};
 ghost use Rattle.ledger.specs.declared.Answer.the-variants.{Accepted, BadTime, BadNumber};
-ghost use Rattle.engine.specs.Index.{wrongLength, lentChecks, clockChecks, addChecks, reportChecks, dropChecks, recordsAfterStep, openAnswer, clockOut, addOut, reportOut, dropOut};
+ghost use Rattle.engine.specs.Index.{wrongLength, lentChecks, clockChecks, addChecks, reportChecks, dropChecks, recordsAfterStep, openAnswer};
 use grid::Range;
 use grid::Rect;
 use grid::Report;
@@ -33,6 +34,23 @@ const LAST_POSITION: i64 = 8388607;
 const ASK_BEFORE: i64 = 3600;
 
 const ASK_AFTER: i64 = 7200;
+
+pub fn is_accepted(a: Answer) -> bool
+    ensures { λ r. ⌜ r ≡ isAccepted a ⌝ }
+{
+    match a {
+        Answer::Accepted(_) => true,
+        Answer::Listed(_, _, _, _) => true,
+        Answer::WrongLength => false,
+        Answer::Unsound => false,
+        Answer::BadTime => false,
+        Answer::BadNumber => false,
+        Answer::AlreadyHeld => false,
+        Answer::NotHeld => false,
+        Answer::Full => false,
+        Answer::ListTooShort(_) => false,
+    }
+}
 
 // 1: a buffer of another length.
 pub fn wrong_length(store: &[i32], table: &[i16]) -> bool
@@ -174,6 +192,16 @@ pub fn sound_clock_answer(store: &[i32], t: i32) -> Answer
     Answer::Accepted(store::held_of(store))
 }
 
+pub fn clock_answer(store: &[i32], table: &[i16], t: i32) -> Answer
+    ensures { λ r. ⌜ r ≡ firstToFail (lentChecks (now (store .entry)) (now (table .entry)) (clockChecks (now (store .entry)) t)) (Accepted (length (recordsOf (now (store .entry))))) ⌝ }
+{
+    let lent = lent_answer(store, table);
+    if !is_accepted(lent) {
+        return lent;
+    }
+    sound_clock_answer(store, t)
+}
+
 pub fn sound_add_answer(store: &[i32], r: Report) -> Answer
     requires { ⌜ IsStore (now store) ⌝ }
     ensures { λ a. ⌜ a ≡ firstToFail (addChecks (now (store .entry)) r) (Accepted (suc (length (recordsOf (now (store .entry)))))) ⌝ }
@@ -194,6 +222,16 @@ pub fn sound_add_answer(store: &[i32], r: Report) -> Answer
     Answer::Accepted(held + 1)
 }
 
+pub fn add_answer(store: &[i32], table: &[i16], r: Report) -> Answer
+    ensures { λ a. ⌜ a ≡ firstToFail (lentChecks (now (store .entry)) (now (table .entry)) (addChecks (now (store .entry)) r)) (Accepted (suc (length (recordsOf (now (store .entry)))))) ⌝ }
+{
+    let lent = lent_answer(store, table);
+    if !is_accepted(lent) {
+        return lent;
+    }
+    sound_add_answer(store, r)
+}
+
 pub fn sound_report_answer(store: &[i32], r: Report) -> Answer
     requires { ⌜ IsStore (now store) ⌝ }
     ensures { λ a. ⌜ a ≡ firstToFail (reportChecks (now (store .entry)) r) (Accepted (length (recordsOf (now (store .entry))))) ⌝ }
@@ -210,6 +248,42 @@ pub fn sound_report_answer(store: &[i32], r: Report) -> Answer
     Answer::Accepted(store::held_of(store))
 }
 
+pub fn report_answer(store: &[i32], table: &[i16], r: Report) -> Answer
+    ensures { λ a. ⌜ a ≡ firstToFail (lentChecks (now (store .entry)) (now (table .entry)) (reportChecks (now (store .entry)) r)) (Accepted (length (recordsOf (now (store .entry))))) ⌝ }
+{
+    let lent = lent_answer(store, table);
+    if !is_accepted(lent) {
+        return lent;
+    }
+    sound_report_answer(store, r)
+}
+
+pub fn sound_drop_answer(store: &[i32], id: i32, t: i32) -> Answer
+    requires { ⌜ IsStore (now store) ⌝ }
+    ensures { λ r. ⌜ r ≡ firstToFail (dropChecks (now (store .entry)) id t) (Accepted (length (removed id (recordsAfterStep (now (store .entry)) t)))) ⌝ }
+{
+    if bad_step_time(store, t) {
+        return Answer::BadTime;
+    }
+    if !is_id(id) {
+        return Answer::BadNumber;
+    }
+    if !store::changes::has_id(store, id) {
+        return Answer::NotHeld;
+    }
+    Answer::Accepted(store::held_of(store) - 1)
+}
+
+pub fn drop_answer(store: &[i32], table: &[i16], id: i32, t: i32) -> Answer
+    ensures { λ r. ⌜ r ≡ firstToFail (lentChecks (now (store .entry)) (now (table .entry)) (dropChecks (now (store .entry)) id t)) (Accepted (length (removed id (recordsAfterStep (now (store .entry)) t)))) ⌝ }
+{
+    let lent = lent_answer(store, table);
+    if !is_accepted(lent) {
+        return lent;
+    }
+    sound_drop_answer(store, id, t)
+}
+
 // The checks of an ask but the last, which wants the ids found.
 pub fn sound_ask_refusal(store: &[i32], method: i32, asked: i32, q: Rect) -> Answer
     requires { ⌜ IsStore (now store) ⌝ }
@@ -222,4 +296,14 @@ pub fn sound_ask_refusal(store: &[i32], method: i32, asked: i32, q: Rect) -> Ans
         return Answer::BadNumber;
     }
     Answer::Accepted(0)
+}
+
+pub fn ask_refusal(store: &[i32], table: &[i16], method: i32, asked: i32, q: Rect) -> Answer
+    ensures { λ r. ⌜ r ≡ firstToFail (lentChecks (now (store .entry)) (now (table .entry)) (check (badAskTime (nowOf (now (store .entry))) asked) BadTime ∷ check (badAsk method q) BadNumber ∷ [])) (Accepted 0) ⌝ }
+{
+    let lent = lent_answer(store, table);
+    if !is_accepted(lent) {
+        return lent;
+    }
+    sound_ask_refusal(store, method, asked, q)
 }

@@ -237,7 +237,7 @@ fn lives_on(c: usize, later: usize, r: Record) -> bool
 }
 
 // A report placed in phase p.
-fn place_in(p: usize, r: Report) -> Record
+pub fn place_in(p: usize, r: Report) -> Record
     requires { ⌜ (p ≤ 277777) × (inRange r ≡ true) × (isTime (r .t) ≡ true) ⌝ }
     ensures { λ a. ⌜ a ≡ placedIn p r ⌝ }
 {
@@ -279,7 +279,7 @@ fn speed(v: i32) -> i16
 }
 
 // The row of a record's cell widened by its speeds.
-fn widen(table: &mut [i16], r: Record)
+pub fn widen(table: &mut [i16], r: Record)
     requires { ⌜ (length (now table) ≡ tableWords) × (isRanged r ≡ true) ⌝ }
     ensures { λ u. ⌜ now (table .exit) ≡ withSpeed (now (table .entry)) (slotOfKey (r .key)) (numberOfKey (r .key)) (r .report .vx) (r .report .vy) ⌝ }
 {

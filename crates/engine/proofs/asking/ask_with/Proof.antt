@@ -1,0 +1,53 @@
+-- `engine::asking::ask_with` meets its contract: the ids are written where there is room for them.
+-- Assumes nothing.
+use mathlib.Core.Path.{_≡_, refl, sym, ap, _∙_}
+use borrow.Author.Needs.{needs}
+use mir.Syntax.{w32, w64}
+use Rattle.ints.proofs.Machine.{held}
+use lib.ListN.{length}
+use Rattle.ints.specs.Whole.{up}
+use Rattle.engine.specs.Index.{phasesNow}
+use Rattle.engine.specs.Gives.{noIds}
+use Rattle.engine.specs.Counted.{CountedOver}
+use Rattle.engine.proofs.AskingLaws.{no-ids-long, enough, short, full}
+use Rattle.engine.proofs.asking.ask_with.Statement.{statement}
+use Rattle.engine.proofs.asking.ask_with.Tie as tie
+
+ask-in-all-requires : tie.Need-ask-in-all-requires
+ask-in-all-requires c κs =
+    let a = c .before .before .before in
+    (rw (held w32 (a .args .method) (search needs), held w32 (a .args .asked) (search needs)) (a .pre .0), ap length (a .pre .1) ∙ no-ids-long)
+
+same-length : tie.Need-same-length
+same-length c = search needs
+
+counted : (c : tie.After-ask-in-all) → CountedOver (c .before .before .before .before .args .store .now) (c .before .before .before .before .args .table .now) (up (c .before .before .before .before .args .method)) (c .before .before .before .before .args .asked) (c .before .before .before .before .args .q) (phasesNow (c .before .before .before .before .args .store .now) (c .before .before .before .before .args .table .now) (up (c .before .before .before .before .args .method)) (c .before .before .before .before .args .asked) (c .before .before .before .before .args .q)) noIds (c .ask-in-all .last .1 .1 .1 .1 .1 .0) (c .ask-in-all .result)
+counted c = let a = c .before .before .before .before in rw (held w32 (a .args .method) (search needs), held w32 (a .args .asked) (search needs), a .pre .1) at (c .ask-in-all .ensures)
+
+returns : tie.Need-returns
+returns c =
+    let i = c .before .before .before in
+    let a = i .before .before .before .before in
+    short (a .args .store .now) (a .args .table .now) (a .args .method) (a .args .asked) (a .args .q) (a .pre .0) (a .args .list .now) (i .ask-in-all .last .1 .1 .1 .1 .1 .0) (i .ask-in-all .result) (counted i) (c .if1 .taken)
+
+rising-requires : tie.Need-rising-requires
+rising-requires c κs =
+    let i = c .before .before .before .before .before in
+    let a = i .before .before .before .before in
+    (i .ask-in-all .kept .1 .1 .1 .1 .1 .0 ∙ (ap length (a .pre .1) ∙ no-ids-long), enough (a .args .store .now) (a .args .table .now) (a .args .method) (a .args .asked) (a .args .q) (a .pre .0) (a .args .list .now) (i .ask-in-all .last .1 .1 .1 .1 .1 .0) (i .ask-in-all .result) (counted i) (c .before .before .if1 .left))
+
+same-length-2 : tie.Need-same-length-2
+same-length-2 c = search needs
+
+same-length-3 : tie.Need-same-length-3
+same-length-3 c = search needs
+
+returns-2 : tie.Need-returns-2
+returns-2 c =
+    let r = c .before .before in
+    let i = r .before .before .before .before .before .before in
+    let a = i .before .before .before .before in
+    full (a .args .store .now) (a .args .table .now) (a .args .method) (a .args .asked) (a .args .q) (a .pre .0) (a .args .list .now) (i .ask-in-all .last .1 .1 .1 .1 .1 .0) (i .ask-in-all .result) (counted i) (r .before .before .before .if1 .left) (r .rising .last .1 .0) (r .rising .ensures .1)
+
+pub ask-with-spec : {M : Type 1} → statement M
+ask-with-spec = tie.close (tie.spec ask-in-all-requires same-length returns rising-requires same-length-2 same-length-3 returns-2)

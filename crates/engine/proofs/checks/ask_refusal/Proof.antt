@@ -1,0 +1,51 @@
+-- `engine::checks::ask_refusal` meets its contract: the lent words first, then the numbers.
+-- Assumes nothing.
+use mathlib.Core.Path.{_≡_, refl, sym, ap, _∙_}
+use borrow.Author.Needs.{needs}
+use borrow.Author.Tests.{not-true, not-false}
+use Rattle.engine.proofs.CheckLaws.{lent-refused, lent-sound, lent-passed, sound-is-store}
+use mir.Syntax.{w32, w64}
+use lib.IntN.{ℤ}
+use Rattle.ints.proofs.Machine.{tested₁, tested₂}
+use mathlib.Core.List.{List, [], _∷_}
+use lib.ListN.{length}
+use Rattle.ledger.specs.Refusals.{firstToFail, badAskTime, badAsk, check}
+use Rattle.engine.specs.Index.{clockChecks, addChecks, reportChecks, dropChecks, recordsAfterStep}
+use Rattle.store.specs.Records.{nowOf, recordsOf}
+use Rattle.store.specs.Changes.{removed}
+use Rattle.ledger.specs.declared.Answer.the-variants.{Accepted, BadTime, BadNumber}
+use Rattle.engine.proofs.checks.ask_refusal.Statement.{statement}
+use Rattle.engine.proofs.checks.ask_refusal.Tie as tie
+
+lent-answer-requires : tie.Need-lent-answer-requires
+lent-answer-requires c κs = search needs
+
+is-accepted-requires : tie.Need-is-accepted-requires
+is-accepted-requires c κs = search needs
+
+returns : tie.Need-returns
+returns c =
+    let l = c .before .before in
+    let a = l .before .args in
+    lent-refused (a .store .now) (a .table .now) (l .lent-answer .result) (l .lent-answer .ensures) _ _
+    (sym (c .before .is-accepted .ensures) ∙ not-true (c .before .is-accepted .result) (c .if1 .taken))
+
+sound-ask-refusal-requires : tie.Need-sound-ask-refusal-requires
+sound-ask-refusal-requires c κs =
+    let l = c .before .before in
+    let a = l .before .args in
+    sound-is-store (a .store .now) (a .table .now)
+    (lent-sound (a .store .now) (a .table .now) (l .lent-answer .result) (l .lent-answer .ensures)
+    (sym (c .before .is-accepted .ensures) ∙ not-false (c .before .is-accepted .result) (c .if1 .left)))
+
+returns-2 : tie.Need-returns-2
+returns-2 c =
+    let k = c .before in
+    let l = k .before .before in
+    let a = l .before .args in
+    lent-passed (a .store .now) (a .table .now) (l .lent-answer .result) (l .lent-answer .ensures) _ _ (c .sound-ask-refusal .result)
+    (sym (k .before .is-accepted .ensures) ∙ not-false (k .before .is-accepted .result) (k .if1 .left))
+    (tested₂ w32 (λ (m t : ℤ). firstToFail (check (badAskTime (nowOf (a .store .now)) t) BadTime ∷ check (badAsk m (a .q)) BadNumber ∷ []) (Accepted 0)) (c .sound-ask-refusal .result) (a .method) (a .asked) (c .sound-ask-refusal .ensures) (search needs) (search needs))
+
+pub ask-refusal-spec : {M : Type 1} → statement M
+ask-refusal-spec = tie.close (tie.spec lent-answer-requires is-accepted-requires returns sound-ask-refusal-requires returns-2)

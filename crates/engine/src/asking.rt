@@ -1,0 +1,148 @@
+// The work of an ask over buffers known to be sound: in each live phase cells are chosen and read, and what choosing and reading give back is summed.
+ghost use mathlib.Core.Path.{_≡_};
+ghost use mathlib.Core.Bool.{true};
+ghost use Prim.Native.Nat.{_+_, _≤_};
+ghost use lib.IntN.{pos};
+ghost use lib.ListN.{length};
+ghost use Rattle.ints.specs.Whole.{up, between};
+ghost use Rattle.grid.specs.Reports.{isTime};
+ghost use Rattle.rows.specs.Phases.{sinceReference};
+ghost use Rattle.engine.specs.Index.{askOut, phasesNow};
+ghost use Rattle.engine.specs.Gives.{GivesList, CanAsk, CanAskIn, noIds};
+ghost use Rattle.engine.specs.Counted.{SmallCounts, CountedIn, CountedOver};
+use grid::Rect;
+use ledger::Answer;
+
+// What asking in a phase, or in several, gives back: ids listed, cells read, useful cells, rounds.
+pub struct Counts {
+    pub listed: usize,
+    pub cells: usize,
+    pub useful: usize,
+    pub rounds: usize,
+}
+
+impl Counts {
+    fn plus(self, other: Counts) -> Counts
+        requires { ⌜ SmallCounts 1000000 self × SmallCounts 1000000 other ⌝ }
+        ensures { λ r. ⌜ (r .listed ≡ self .listed + other .listed) × (r .cells ≡ self .cells + other .cells) × (r .useful ≡ self .useful + other .useful) × (r .rounds ≡ self .rounds + other .rounds) ⌝ }
+    {
+        Counts {
+            listed: self.listed + other.listed,
+            cells: self.cells + other.cells,
+            useful: self.useful + other.useful,
+            rounds: self.rounds + other.rounds,
+        }
+    }
+}
+
+fn wide(z: i32) -> i64
+    ensures { λ r. ⌜ r ≡ z ⌝ }
+{
+    z as i64
+}
+
+// Seconds from a phase's reference time to the asked time.
+fn since_reference(p: usize, asked: i32) -> i64
+    requires { ⌜ (p ≤ 277777) × (isTime asked ≡ true) ⌝ }
+    ensures { λ r. ⌜ r ≡ sinceReference p asked ⌝ }
+{
+    wide(asked) - rows::reference_time(p)
+}
+
+// The number of a method that passed its check.
+fn number_of(method: i32) -> usize
+    requires { ⌜ between (pos 0) (pos 3) method ≡ true ⌝ }
+    ensures { λ r. ⌜ r ≡ up method ⌝ }
+{
+    method as usize
+}
+
+// An ask in one live phase: cells chosen by the rows of its slot, and read.
+fn ask_in(
+    store: &[i32],
+    table: &[i16],
+    p: usize,
+    method: i32,
+    asked: i32,
+    q: Rect,
+    found: &mut [u8],
+) -> Counts
+    requires { ⌜ CanAskIn (now store) (now table) method asked q p (now found) ⌝ }
+    ensures { λ r. ⌜ CountedIn (now (store .entry)) (now (table .entry)) (up method) asked q p (now (found .entry)) (now (found .exit)) r ⌝ }
+{
+    let slot = rows::slot_of(p);
+    let d = since_reference(p, asked);
+    let number = number_of(method);
+    let time = wide(asked);
+    let mut marks = [0u8; 1024];
+    let chosen = methods::choose::choose(table, slot, number, q, d, &mut marks);
+    let reading = store::reading::read_cells(store, slot, &marks, q, time, found);
+    Counts {
+        listed: reading.listed,
+        cells: reading.cells,
+        useful: reading.useful,
+        rounds: chosen.rounds,
+    }
+}
+
+// An ask in each live phase, newest first.
+fn ask_in_all(
+    store: &[i32],
+    table: &[i16],
+    method: i32,
+    asked: i32,
+    q: Rect,
+    found: &mut [u8],
+) -> Counts
+    requires { ⌜ CanAsk (now store) (now table) method asked q × (length (now found) ≡ 65536) ⌝ }
+    ensures { λ r. ⌜ CountedOver (now (store .entry)) (now (table .entry)) (up method) asked q (phasesNow (now (store .entry)) (now (table .entry)) (up method) asked q) (now (found .entry)) (now (found .exit)) r ⌝ }
+{
+    let c = rows::phase_of(store::now_of(store));
+    let newest = ask_in(store, table, c, method, asked, q, found);
+    if c < 1 {
+        return newest;
+    }
+    let two = newest.plus(ask_in(store, table, c - 1, method, asked, q, found));
+    if c < 2 {
+        return two;
+    }
+    two.plus(ask_in(store, table, c - 2, method, asked, q, found))
+}
+
+// An ask whose checks up to 4 are passed, with no id marked yet. Nothing is written to the list before it is known to have room.
+fn ask_with(
+    store: &[i32],
+    table: &[i16],
+    list: &mut [u16],
+    method: i32,
+    asked: i32,
+    q: Rect,
+    found: &mut [u8],
+) -> Answer
+    requires { ⌜ CanAsk (now store) (now table) method asked q × (now found ≡ noIds) ⌝ }
+    ensures { λ r. ⌜ GivesList (askOut (now (store .entry)) (now (table .entry)) method asked q (now (list .entry))) r (now (list .exit)) ⌝ }
+{
+    let counts = ask_in_all(store, table, method, asked, q, found);
+    let needed = counts.listed;
+    if list.len() < needed {
+        return Answer::ListTooShort(needed);
+    }
+    store::reading::rising(found, list);
+    Answer::Listed(needed, counts.cells, counts.useful, counts.rounds)
+}
+
+// An ask whose checks up to 4 are passed.
+pub fn ask_sound(
+    store: &[i32],
+    table: &[i16],
+    list: &mut [u16],
+    method: i32,
+    asked: i32,
+    q: Rect,
+) -> Answer
+    requires { ⌜ CanAsk (now store) (now table) method asked q ⌝ }
+    ensures { λ r. ⌜ GivesList (askOut (now (store .entry)) (now (table .entry)) method asked q (now (list .entry))) r (now (list .exit)) ⌝ }
+{
+    let mut found = [0u8; 65536];
+    ask_with(store, table, list, method, asked, q, &mut found)
+}

@@ -1,0 +1,8 @@
+pub mod ReadingLaws
+pub mod ColumnLaws
+pub mod FieldLaws
+pub mod LineLaws
+pub mod Claims
+pub mod PutLaws
+pub mod AnswerLaws
+pub mod Sightings

@@ -1,0 +1,138 @@
+-- How a call and an answer are written as a line: document 01, "Lines". A byte is a number, and a line here has no newline.
+-- Assumes nothing.
+use mathlib.Core.Path.{_≡_}
+use mathlib.Core.Bool.{Bool, true, false, cond, _&&_}
+use mathlib.Core.List.{List, [], _∷_, _++_, map}
+use Prim.Native.Nat.{ℕ, zero, suc, _+_, _-_, _*_, _/_, _%_, _≤_}
+use Prim.Native.Char.{code}
+use lib.Dec.{ltb}
+use lib.IntN.{ℤ, pos, negsuc, negℤ}
+use lib.ListN.{length, drop, replicate}
+use Rattle.ints.specs.Whole.{between}
+use Rattle.grid.specs.declared.Rect.{Rect}
+use Rattle.grid.specs.declared.Report.{Report}
+use Rattle.ledger.specs.Answers.{numberOf, valueOf, countsOf}
+use Rattle.ledger.specs.declared.Answer.{Answer}
+use Rattle.ledger.specs.declared.Answer.the-variants.{Accepted, Listed, WrongLength, Unsound, BadTime, BadNumber, AlreadyHeld, NotHeld, Full, ListTooShort}
+use Rattle.lines.specs.declared.LineCall.{LineCall}
+use Rattle.lines.specs.declared.LineCall.the-variants.{Open, Clock, Add, Update, Drop, Ask, NoCall}
+
+-- ---- one number
+
+-- the columns of a number
+abbrev pub width : ℕ
+width = 10
+
+-- the digit d, from 0 to 9
+abbrev pub digit : ℕ → ℕ
+digit d = code "0" + d
+
+-- the decimal digits of n, which has at most k: the last one after those of n / 10, and no leading zeros
+unfoldable pub digits : ℕ → ℕ → List ℕ
+digits zero n = []
+digits (suc k) n = cond (ltb n 10) (digit n ∷ []) (digits k (n / 10) ++ digit (n % 10) ∷ [])
+
+-- "-" before a number below 0
+unfoldable pub written : ℤ → List ℕ
+written (pos n) = digits width n
+written (negsuc n) = code "-" ∷ digits width (suc n)
+
+-- right-justified in its columns
+unfoldable pub fieldOf : ℤ → List ℕ
+fieldOf z = replicate (width - length (written z)) (code " ") ++ written z
+
+-- the greatest number that a line may have, and the size of the least
+abbrev pub greatest : ℕ
+greatest = 2147483647
+
+abbrev pub leastSize : ℕ
+leastSize = 999999999
+
+abbrev pub isWritable : ℤ → Bool
+isWritable = between (negℤ (pos leastSize)) (pos greatest)
+
+-- ---- lines
+
+unfoldable pub fields : List ℤ → List ℕ
+fields [] = []
+fields (z ∷ zs) = fieldOf z ++ fields zs
+
+unfoldable pub areWritable : List ℤ → Bool
+areWritable [] = true
+areWritable (z ∷ zs) = isWritable z && areWritable zs
+
+-- a letter, then numbers
+abbrev pub lineOf : ℕ → List ℤ → List ℕ
+lineOf letter numbers = letter ∷ fields numbers
+
+-- a call's numbers, in the order in which its line has them
+abbrev pub reportNumbers : Report → List ℤ
+reportNumbers r = r .id ∷ r .t ∷ r .x ∷ r .y ∷ r .vx ∷ r .vy ∷ []
+
+abbrev pub askNumbers : ℤ → ℤ → Rect → List ℤ
+askNumbers method t q = method ∷ t ∷ q .x .low ∷ q .y .low ∷ q .x .high ∷ q .y .high ∷ []
+
+unfoldable pub numbersOf : LineCall → List ℤ
+numbersOf (Open t) = t ∷ []
+numbersOf (Clock t) = t ∷ []
+numbersOf (Add r) = reportNumbers r
+numbersOf (Update r) = reportNumbers r
+numbersOf (Drop id t) = id ∷ t ∷ []
+numbersOf (Ask method t q) = askNumbers method t q
+numbersOf NoCall = []
+
+-- a call's line; what is no call has none
+unfoldable pub callLine : LineCall → List ℕ
+callLine (Open t) = lineOf (code "O") (numbersOf (Open t))
+callLine (Clock t) = lineOf (code "C") (numbersOf (Clock t))
+callLine (Add r) = lineOf (code "A") (numbersOf (Add r))
+callLine (Update r) = lineOf (code "U") (numbersOf (Update r))
+callLine (Drop id t) = lineOf (code "D") (numbersOf (Drop id t))
+callLine (Ask method t q) = lineOf (code "Q") (numbersOf (Ask method t q))
+callLine NoCall = []
+
+-- whether it is an accepted ask's
+abbrev pub isListing : Answer → Bool
+isListing (Accepted held) = false
+isListing (Listed listed cells useful rounds) = true
+isListing WrongLength = false
+isListing Unsound = false
+isListing BadTime = false
+isListing BadNumber = false
+isListing AlreadyHeld = false
+isListing NotHeld = false
+isListing Full = false
+isListing (ListTooShort needed) = false
+
+-- what an accepted ask's line has after the number and the value returned, which is the ids listed: cells, useful, rounds, then the ids
+abbrev pub furtherNumbers : Answer → List ℕ → List ℕ
+furtherNumbers answer ids =
+    let counts = countsOf answer in
+    cond (isListing answer) (counts .cells ∷ counts .useful ∷ counts .rounds ∷ ids) []
+
+abbrev pub answerNumbers : Answer → List ℕ → List ℕ
+answerNumbers answer ids = numberOf answer ∷ valueOf answer ∷ furtherNumbers answer ids
+
+abbrev pub answerLine : ℕ → Answer → List ℕ → List ℕ
+answerLine letter answer ids = lineOf letter (map pos (answerNumbers answer ids))
+
+-- the answer to a line that is no call
+unfoldable pub noCallLine : List ℕ
+noCallLine = lineOf (code "?") (pos 9 ∷ pos 0 ∷ [])
+
+-- ---- where a line is written
+
+-- numbers that a line may have, and room for a letter and their fields
+pub record Room (numbers : List ℤ) (out : List ℕ) : Type 0 where
+  pub room : 1 + width * length numbers ≤ length out
+  pub writable : areWritable numbers ≡ true
+
+-- the same of an answer; the ids are at most 65,535
+pub record AnswerRoom (answer : Answer) (ids out : List ℕ) : Type 0 where
+  pub room : 1 + width * length (answerNumbers answer ids) ≤ length out
+  pub writable : areWritable (map pos (answerNumbers answer [])) ≡ true
+
+-- a text written in front of some bytes, the rest kept, and its length returned
+pub record Written (text before after : List ℕ) (returned : ℕ) : Type 0 where
+  pub bytes : after ≡ text ++ drop (length text) before
+  pub count : returned ≡ length text

@@ -1,0 +1,112 @@
+-- The listing of document 01, its lines and what they say; and lines that are no call.
+-- Assumes nothing.
+use mathlib.Core.List.{List, [], _∷_}
+use Prim.Native.Nat.{ℕ}
+use Prim.Native.Char.{Char, code}
+use Prim.Native.String.{String, [] as []ᵀ, _∷_ as _∷ᵀ_}
+use lib.IntN.{pos, negsuc}
+use Rattle.ledger.specs.Sightings.{sent, rectangle}
+use Rattle.ledger.specs.declared.Answer.{Answer}
+use Rattle.ledger.specs.declared.Answer.the-variants.{Accepted, Listed, NotHeld, ListTooShort}
+use Rattle.lines.specs.declared.LineCall.{LineCall}
+use Rattle.lines.specs.declared.LineCall.the-variants.{Open, Clock, Add, Drop, Ask}
+
+-- the bytes of a text that has no letter but those of ASCII
+unfoldable pub bytes : String → List ℕ
+bytes []ᵀ = []
+bytes (c ∷ᵀ text) = code c ∷ bytes text
+
+-- a line, and the call that it says
+pub record Said : Type 0 where
+  pub line : String
+  pub call : LineCall
+
+unfoldable pub listing : List Said
+listing =
+    record { line = "O         0"; call = Open (pos 0) }
+    ∷ record {
+      line = "A         7         0    100000    100000       100         0";
+      call = Add (sent 7 0 100000 100000 (pos 100) (pos 0));
+    }
+    ∷ record {
+      line = "A         9         0    600000    100000       -50         0";
+      call = Add (sent 9 0 600000 100000 (negsuc 49) (pos 0));
+    }
+    ∷ record {
+      line = "Q         3      3600    400000         0    500000    200000";
+      call = Ask (pos 3) (pos 3600) (rectangle 400000 0 500000 200000);
+    }
+    ∷ record { line = "D         7        10"; call = Drop (pos 7) (pos 10) }
+    ∷ record {
+      line = "Q         0      3600    400000         0    500000    200000";
+      call = Ask (pos 0) (pos 3600) (rectangle 400000 0 500000 200000);
+    }
+    ∷ record { line = "D         7        20"; call = Drop (pos 7) (pos 20) }
+    ∷ []
+
+-- an answer with its call's letter and the ids listed, and its line
+pub record Answered : Type 0 where
+  pub letter : Char
+  pub answer : Answer
+  pub ids : List ℕ
+  pub line : String
+
+unfoldable pub answered : List Answered
+answered =
+    record { letter = "O"; answer = Accepted 0; ids = []; line = "O         0         0" }
+    ∷ record { letter = "A"; answer = Accepted 1; ids = []; line = "A         0         1" }
+    ∷ record { letter = "A"; answer = Accepted 2; ids = []; line = "A         0         2" }
+    ∷ record {
+      letter = "Q";
+      answer = Listed 2 2 2 0;
+      ids = 7 ∷ 9 ∷ [];
+      line = "Q         0         2         2         2         0         7         9";
+    }
+    ∷ record { letter = "D"; answer = Accepted 1; ids = []; line = "D         0         1" }
+    ∷ record {
+      letter = "Q";
+      answer = Listed 1 3 1 0;
+      ids = 9 ∷ [];
+      line = "Q         0         1         3         1         0         9";
+    }
+    ∷ record { letter = "D"; answer = NotHeld; ids = []; line = "D         6         0" }
+    ∷ []
+
+-- an ask refused for its list, lent some ids, none of which is written
+abbrev pub shortList : Answered
+shortList = record { letter = "Q"; answer = ListTooShort 2; ids = 7 ∷ []; line = "Q         8         2" }
+
+-- the least and the greatest number
+unfoldable pub limits : List Said
+limits =
+    record { line = "O-999999999"; call = Open (negsuc 999999998) }
+    ∷ record { line = "C2147483647"; call = Clock (pos 2147483647) }
+    ∷ []
+
+-- no call: wrong letters, wrong lengths, a trailing blank, a carriage return, and what is no number
+unfoldable pub damaged : List String
+damaged =
+    ""
+    ∷ "O"
+    ∷ "X"
+    ∷ "X         0"
+    ∷ "o         0"
+    ∷ "         0"
+    ∷ "O        0"
+    ∷ "O         0 "
+    ∷ "O         0\r"
+    ∷ "D         7"
+    ∷ "D         7        10        10"
+    ∷ "O        +5"
+    ∷ "O        -0"
+    ∷ "O       007"
+    ∷ "O         -"
+    ∷ "O          "
+    ∷ "O        5 "
+    ∷ "O       5 5"
+    ∷ "O       5-5"
+    ∷ "O      0x10"
+    ∷ "O2147483648"
+    ∷ "O9999999999"
+    ∷ "O-1000000000"
+    ∷ []
