@@ -1,0 +1,241 @@
+use super::*;
+use crate::generate::lists;
+use crate::lines::read_call;
+use crate::stream::{answers, serve};
+use crate::LISTING;
+
+fn open(t: i64) -> Ledger {
+    let mut ledger = Ledger::new(Wrong::Nothing);
+    assert_eq!(ledger.call(&Call::Open { t }, 0), Answer::Accepted(0));
+    ledger
+}
+
+fn sighting(id: i64, t: i64, at: [i64; 2], speed: [i64; 2]) -> Sighting {
+    Sighting { id, t, at, speed }
+}
+
+fn ask(method: i64, time: i64, low: [i64; 2], high: [i64; 2]) -> Ask {
+    let rectangle = Rectangle { low, high };
+    Ask {
+        method,
+        time,
+        rectangle,
+    }
+}
+
+/// Ids, cells, useful, rounds.
+fn listed(ledger: &mut Ledger, ask: Ask) -> (Vec<i64>, usize, usize, usize) {
+    match ledger.call(&Call::Ask(ask), MOST_HELD) {
+        Answer::Listed {
+            ids,
+            cells,
+            useful,
+            rounds,
+        } => (ids, cells, useful, rounds),
+        other => panic!("{other:?}"),
+    }
+}
+
+#[test]
+fn the_listing() {
+    let (calls, wanted) = LISTING;
+    let got = answers(calls.as_bytes(), Wrong::Nothing);
+    assert_eq!(String::from_utf8(got).unwrap(), wanted);
+    let unended = calls.trim_end().as_bytes();
+    assert_eq!(answers(unended, Wrong::Nothing), wanted.as_bytes());
+}
+
+#[test]
+fn pieces_newlines_and_long_lines() {
+    let unread = "?         9         0\n";
+    for (input, count) in [("", 0), ("\n", 1), ("x", 1), ("x\n", 1), ("\n\nx", 3)] {
+        let got = answers(input.as_bytes(), Wrong::Nothing);
+        assert_eq!(got, unread.repeat(count).as_bytes());
+    }
+    let long = format!(
+        "{}{}\n{}",
+        LISTING.0,
+        "O         0".repeat(9_000),
+        LISTING.0
+    );
+    let wanted = [LISTING.1, unread, LISTING.1].concat();
+    assert_eq!(answers(long.as_bytes(), Wrong::Nothing), wanted.as_bytes());
+    let mut served = Vec::new();
+    serve(&mut long.as_bytes(), &mut served).unwrap();
+    assert_eq!(served, wanted.as_bytes());
+}
+
+#[test]
+fn p11_cells_and_rounds() {
+    let mut ledger = open(0);
+    let floats = [(2_700_000, 0), (1_100_000, 200), (5_300_000, 500)];
+    for (id, (x, vx)) in (1..).zip(floats) {
+        let call = Call::Add(sighting(id, 0, [x, 500], [vx, 0]));
+        assert_eq!(ledger.call(&call, 0), Answer::Accepted(id));
+    }
+    for (method, cells, rounds) in [(0, 8, 0), (1, 4, 0), (2, 1, 2), (3, 1, 0)] {
+        let ask = ask(method, 3_600, [2_621_440, 0], [2_883_583, 1_000]);
+        assert_eq!(listed(&mut ledger, ask), (vec![1], cells, 1, rounds));
+    }
+}
+
+#[test]
+fn p12_a_float_is_placed_anew_when_its_phase_dies() {
+    let mut ledger = open(0);
+    ledger.call(&Call::Add(sighting(1, 0, [100_000, 0], [100, 0])), 0);
+    ledger.call(&Call::Clock { t: 10_799 }, 0);
+    assert_eq!((ledger.held[&1].phase, ledger.held[&1].cell), (0, 0));
+    ledger.call(&Call::Clock { t: 10_800 }, 0);
+    assert_eq!((ledger.held[&1].phase, ledger.held[&1].cell), (3, 4));
+}
+
+#[test]
+fn edge_cells_have_no_end() {
+    let mut ledger = open(0);
+    ledger.call(&Call::Add(sighting(1, 3_599, [100, 0], [500, 0])), 0);
+    let ask = ask(3, 3_599, [0, 0], [1_000, 1_000]);
+    assert_eq!(listed(&mut ledger, ask), (vec![1], 1, 1, 0));
+}
+
+#[test]
+fn missing_bounds() {
+    let sea = [SEA; 2];
+    let mut ledger = open(8_000);
+    for method in 0..4 {
+        let ask = ask(method, 8_000, [0, 0], sea);
+        assert_eq!(listed(&mut ledger, ask), (vec![], 0, 0, 0));
+    }
+    // A float at rest in the first cell, asked for in the last.
+    ledger.call(&Call::Add(sighting(1, 8_000, [0, 0], [0, 0])), 0);
+    for (method, cells, rounds) in [(0, 1, 0), (1, 0, 0), (2, 0, 1), (3, 0, 0)] {
+        let ask = ask(method, 8_000, sea, sea);
+        assert_eq!(listed(&mut ledger, ask), (vec![], cells, 0, rounds));
+    }
+}
+
+#[test]
+fn every_refusal() {
+    let good = sighting(7, 100, [0, SEA], [-500, 500]);
+    let mut ledger = open(100);
+    let mut refused = |call: Call, list, number, value| {
+        let (now, held) = (ledger.now, ledger.held.len());
+        let answer = ledger.call(&call, list);
+        assert_eq!(answer, Answer::Refused(number, value), "{call:?}");
+        assert_eq!((ledger.now, ledger.held.len()), (now, held));
+    };
+    for t in [-1, 1_000_000_000] {
+        refused(Call::Open { t }, 0, 3, 0);
+    }
+    for t in [-1, 99, 1_000_000_000] {
+        refused(Call::Clock { t }, 0, 3, 0);
+        refused(Call::Add(Sighting { t, id: 0, ..good }), 0, 3, 0);
+        refused(Call::Report(Sighting { t, id: 0, ..good }), 0, 3, 0);
+        refused(Call::Drop { id: 0, t }, 0, 3, 0);
+    }
+    for time in [-1, 7_301, 1_000_000_000] {
+        refused(Call::Ask(ask(9, time, [0, 0], [0, 0])), 0, 3, 0);
+    }
+    for id in [-1, 0, 65_536] {
+        refused(Call::Add(Sighting { id, ..good }), 0, 4, 0);
+        refused(Call::Report(Sighting { id, ..good }), 0, 4, 0);
+        refused(Call::Drop { id, t: 5_000 }, 0, 4, 0);
+    }
+    for at in [[-1, 0], [0, -1], [SEA + 1, 0], [0, SEA + 1]] {
+        refused(Call::Add(Sighting { at, ..good }), 0, 4, 0);
+        refused(Call::Ask(ask(0, 100, at, [SEA; 2])), 0, 4, 0);
+        refused(Call::Ask(ask(0, 100, [0; 2], at)), 0, 4, 0);
+    }
+    for speed in [[-501, 0], [0, -501], [501, 0], [0, 501]] {
+        refused(Call::Report(Sighting { speed, ..good }), 0, 4, 0);
+    }
+    for method in [-1, 4] {
+        refused(Call::Ask(ask(method, 100, [0; 2], [0; 2])), 0, 4, 0);
+    }
+    refused(Call::Ask(ask(0, 100, [1, 0], [0, 0])), 0, 4, 0);
+    refused(Call::Ask(ask(0, 100, [0, 1], [0, 0])), 0, 4, 0);
+    refused(Call::Report(good), 0, 6, 0);
+    refused(Call::Drop { id: 7, t: 5_000 }, 0, 6, 0);
+
+    for id in 1..=1_024 {
+        let call = Call::Add(Sighting { id, ..good });
+        assert_eq!(ledger.call(&call, 0), Answer::Accepted(id));
+    }
+    let mut refused = |call: Call, list, number, value| {
+        assert_eq!(ledger.call(&call, list), Answer::Refused(number, value));
+        assert_eq!((ledger.now, ledger.held.len()), (100, 1_024));
+    };
+    let late = Sighting { t: 9_000, ..good };
+    refused(Call::Add(late), 0, 5, 0);
+    refused(Call::Add(Sighting { id: 1_025, ..late }), 0, 7, 0);
+    for list in [0, 1, 1_023] {
+        refused(Call::Ask(ask(2, 100, [0; 2], [SEA; 2])), list, 8, 1_024);
+    }
+    let all = ledger.call(&Call::Ask(ask(2, 100, [0; 2], [SEA; 2])), 1_024);
+    assert!(matches!(all, Answer::Listed { ids, .. } if ids == Vec::from_iter(1..=1_024)));
+}
+
+/// The rows are the bounds of the listed placements, and whatever the method,
+/// the chosen cells hold every listed float of their phase.
+#[test]
+fn rows_and_choices_in_generated_lists() {
+    let mut most_rounds = 0;
+    for list in lists(1) {
+        let mut ledger = Ledger::new(Wrong::Nothing);
+        for (number, line) in list.input.split(|byte| *byte == b'\n').enumerate() {
+            let Some(call) = read_call(line) else {
+                continue;
+            };
+            let answer = ledger.call(&call, MOST_HELD);
+            if number % 16 == 0 {
+                check_rows(&ledger);
+            }
+            if let (Call::Ask(ask), Answer::Listed { ids, .. }) = (call, answer) {
+                most_rounds = most_rounds.max(check_choices(&ledger, &ask, &ids));
+            }
+        }
+    }
+    assert!(most_rounds >= 6, "{most_rounds}");
+}
+
+fn check_rows(ledger: &Ledger) {
+    let c = ledger.now / PHASE;
+    let mut wanted = [0; 3].map(|_| vec![Row::EMPTY; CELLS]);
+    for (phase, cell, speed) in &ledger.placements {
+        assert!(live(c).contains(phase));
+        let row = &mut wanted[slot(*phase)][*cell];
+        *row = row.join(Row::one(*speed));
+    }
+    for phase in live(c) {
+        assert_eq!(ledger.rows[slot(phase)], wanted[slot(phase)]);
+    }
+}
+
+fn check_choices(ledger: &Ledger, ask: &Ask, ids: &[i64]) -> usize {
+    let mut most_rounds = 0;
+    for phase in live(ledger.now / PHASE) {
+        let choice = ledger.choice(ask, phase);
+        assert!((-3_600..=17_999).contains(&choice.d));
+        let chosen = [0, 1, 2, 3].map(|method| choice.choose(method));
+        let mut inside = vec![0; CELLS];
+        for (method, chosen) in chosen.iter().enumerate() {
+            for cell in &chosen.cells {
+                // Each method's cells are among those of the method before.
+                assert_eq!(inside[*cell], method);
+                inside[*cell] += 1;
+            }
+        }
+        let here = ids.iter().map(|id| &ledger.held[id]);
+        for held in here.filter(|held| held.phase == phase) {
+            assert_eq!(inside[held.cell], 4);
+        }
+        let rounds = chosen[2].rounds;
+        let ends = chosen[0].cells.first().zip(chosen[0].cells.last());
+        let most = ends.map_or(0, |(first, last)| {
+            let [low, high] = [first, last].map(|cell| crate::grid::places(*cell));
+            (high[0] - low[0]) + (high[1] - low[1]) + 1
+        });
+        assert!(rounds <= most);
+        most_rounds = most_rounds.max(rounds);
+    }
+    most_rounds
+}

@@ -1,0 +1,217 @@
+//! Call lines read strictly, call lines and answer lines written.
+
+use crate::grid::Rectangle;
+use crate::ledger::{Answer, Ask, Call, Sighting};
+
+/// The columns of a number.
+const COLUMNS: usize = 10;
+const LEAST: i64 = -999_999_999;
+const GREATEST: i64 = 2_147_483_647;
+/// The longest call line: a letter and six numbers.
+pub const LONGEST: usize = 1 + 6 * COLUMNS;
+
+/// How many numbers follow a letter.
+pub fn count(letter: u8) -> Option<usize> {
+    match letter {
+        b'O' | b'C' => Some(1),
+        b'D' => Some(2),
+        b'A' | b'U' | b'Q' => Some(6),
+        _ => None,
+    }
+}
+
+/// The call on a line without its newline, if the line is one.
+pub fn read_call(line: &[u8]) -> Option<Call> {
+    let (&letter, rest) = line.split_first()?;
+    if rest.len() != COLUMNS * count(letter)? {
+        return None;
+    }
+    let mut n = [0; 6];
+    for (number, field) in n.iter_mut().zip(rest.chunks(COLUMNS)) {
+        *number = read_number(field)?;
+    }
+    let sighting = Sighting {
+        id: n[0],
+        t: n[1],
+        at: [n[2], n[3]],
+        speed: [n[4], n[5]],
+    };
+    Some(match letter {
+        b'O' => Call::Open { t: n[0] },
+        b'C' => Call::Clock { t: n[0] },
+        b'D' => Call::Drop { id: n[0], t: n[1] },
+        b'A' => Call::Add(sighting),
+        b'U' => Call::Report(sighting),
+        _ => Call::Ask(Ask {
+            method: n[0],
+            time: n[1],
+            rectangle: Rectangle {
+                low: [n[2], n[3]],
+                high: [n[4], n[5]],
+            },
+        }),
+    })
+}
+
+fn read_number(field: &[u8]) -> Option<i64> {
+    let start = field.iter().position(|byte| *byte != b' ')?;
+    let (negative, digits) = match &field[start..] {
+        [b'-', digits @ ..] => (true, digits),
+        digits => (false, digits),
+    };
+    if digits.is_empty() || !digits.iter().all(u8::is_ascii_digit) {
+        return None;
+    }
+    if digits[0] == b'0' && (digits.len() > 1 || negative) {
+        return None;
+    }
+    let size = digits.iter().fold(0, |n, d| 10 * n + (d - b'0') as i64);
+    let number = if negative { -size } else { size };
+    (LEAST..=GREATEST).contains(&number).then_some(number)
+}
+
+/// Writes a number right-justified in its columns.
+fn write_number(number: i64, out: &mut Vec<u8>) {
+    let mut field = [b' '; COLUMNS];
+    let mut rest = number.unsigned_abs();
+    let mut at = COLUMNS;
+    loop {
+        at -= 1;
+        field[at] = b'0' + (rest % 10) as u8;
+        rest /= 10;
+        if rest == 0 {
+            break;
+        }
+    }
+    if number < 0 {
+        field[at - 1] = b'-';
+    }
+    out.extend_from_slice(&field);
+}
+
+/// Writes a letter and numbers as a line.
+pub fn write_line(letter: u8, numbers: &[i64], out: &mut Vec<u8>) {
+    out.push(letter);
+    for number in numbers {
+        write_number(*number, out);
+    }
+    out.push(b'\n');
+}
+
+/// The letter and the numbers of a call.
+pub fn numbers(call: &Call) -> (u8, Vec<i64>) {
+    let of = |s: &Sighting| vec![s.id, s.t, s.at[0], s.at[1], s.speed[0], s.speed[1]];
+    match call {
+        Call::Open { t } => (b'O', vec![*t]),
+        Call::Clock { t } => (b'C', vec![*t]),
+        Call::Drop { id, t } => (b'D', vec![*id, *t]),
+        Call::Add(sighting) => (b'A', of(sighting)),
+        Call::Report(sighting) => (b'U', of(sighting)),
+        Call::Ask(ask) => {
+            let Rectangle { low, high } = ask.rectangle;
+            let corners = [low[0], low[1], high[0], high[1]];
+            (b'Q', [&[ask.method, ask.time], &corners[..]].concat())
+        }
+    }
+}
+
+/// Writes the answer to the call that came with this letter.
+pub fn write_answer(letter: u8, answer: &Answer, out: &mut Vec<u8>) {
+    match answer {
+        Answer::Accepted(value) => write_line(letter, &[0, *value], out),
+        Answer::Refused(number, value) => write_line(letter, &[*number, *value], out),
+        Answer::Listed {
+            ids,
+            cells,
+            useful,
+            rounds,
+        } => {
+            out.push(letter);
+            for number in [0, ids.len(), *cells, *useful, *rounds] {
+                write_number(number as i64, out);
+            }
+            for id in ids {
+                write_number(*id, out);
+            }
+            out.push(b'\n');
+        }
+    }
+}
+
+/// Writes the answer to a line that is no call.
+pub fn write_unread(out: &mut Vec<u8>) {
+    write_line(b'?', &[9, 0], out);
+}
+
+#[cfg(test)]
+mod tests {
+    use super::*;
+
+    fn number(text: &str) -> Option<i64> {
+        assert_eq!(text.len(), COLUMNS);
+        match read_call(format!("O{text}").as_bytes()) {
+            Some(Call::Open { t }) => Some(t),
+            _ => None,
+        }
+    }
+
+    #[test]
+    fn numbers_that_are_read() {
+        let cases = [0, 1, 7, 10, -1, -10, 999, LEAST, LEAST + 1, GREATEST - 1];
+        for n in cases.into_iter().chain([GREATEST]) {
+            assert_eq!(number(&format!("{n:>10}")), Some(n));
+        }
+    }
+
+    #[test]
+    fn numbers_that_are_not_read() {
+        let cases = [
+            "", "-", "+5", "-0", "007", "00", "-07", "-00", "--5", "5-", "- 5", "1 2", " 1 2", "x",
+            "5x", "0x1", "1e3", ".5", "5.", "5 ", "\t5", "5\t", "5\r", "1,000", "\0", "5\0",
+        ];
+        for text in cases {
+            assert_eq!(number(&format!("{text:>10}")), None, "{text:?}");
+        }
+        let wide = [
+            "2147483648",
+            "9999999999",
+            "0000000005",
+            "-000000005",
+            "5         ",
+        ];
+        for text in wide {
+            assert_eq!(number(text), None, "{text:?}");
+        }
+    }
+
+    #[test]
+    fn lines_that_are_not_read() {
+        let good = b"D         7        10";
+        assert!(read_call(good).is_some());
+        for cut in 0..good.len() {
+            assert_eq!(read_call(&good[..cut]), None);
+            assert_eq!(read_call(&good[cut + 1..]), None);
+        }
+        for extra in [" ", "\r", "0", "\0", "         0"] {
+            assert_eq!(read_call(&[&good[..], extra.as_bytes()].concat()), None);
+        }
+        for letter in 0..=255 {
+            let line = [&[letter], &good[1..]].concat();
+            assert_eq!(read_call(&line).is_some(), letter == b'D');
+        }
+    }
+
+    #[test]
+    fn a_written_call_line_is_read_as_that_call() {
+        for letter in *b"OCDAUQ" {
+            for n in [LEAST, -1, 0, 1, 65_535, GREATEST] {
+                let mut line = Vec::new();
+                let fields = (1..=count(letter).unwrap() as i64).map(|i| n / i);
+                let fields: Vec<i64> = fields.collect();
+                write_line(letter, &fields, &mut line);
+                let call = read_call(&line[..line.len() - 1]).unwrap();
+                assert_eq!(numbers(&call), (letter, fields));
+            }
+        }
+    }
+}

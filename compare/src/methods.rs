@@ -1,0 +1,193 @@
+//! Speed rows, and the four ways to choose the cells of a phase.
+
+use crate::grid::{places, Block, Rectangle, SIDE, WIDTH};
+
+/// A wrong rule, to see whether a comparison finds it.
+#[derive(Clone, Copy, Debug, PartialEq, Eq)]
+pub enum Wrong {
+    /// No wrong rule: the document's ledger.
+    Nothing,
+    /// The formulas for d below 0 take d itself and not its size.
+    SignedBack,
+    /// The edge cells end at the edge of the sea.
+    EndedEdges,
+    /// A row narrows when a float placed in it is dropped.
+    NarrowedDrop,
+    /// An ask leaves out the oldest of three live phases.
+    SkippedPhase,
+}
+
+/// Least and greatest speed on either axis.
+#[derive(Clone, Copy, Debug, PartialEq, Eq)]
+pub struct Row {
+    pub least: [i16; 2],
+    pub greatest: [i16; 2],
+}
+
+impl Row {
+    pub const EMPTY: Row = Row {
+        least: [501; 2],
+        greatest: [-501; 2],
+    };
+
+    pub fn one(speed: [i64; 2]) -> Row {
+        let speed = speed.map(|v| v as i16);
+        Row {
+            least: speed,
+            greatest: speed,
+        }
+    }
+
+    pub fn is_empty(&self) -> bool {
+        *self == Row::EMPTY
+    }
+
+    /// The smallest row that holds both.
+    pub fn join(self, other: Row) -> Row {
+        let (a, b) = (self, other);
+        Row {
+            least: [a.least[0].min(b.least[0]), a.least[1].min(b.least[1])],
+            greatest: [
+                a.greatest[0].max(b.greatest[0]),
+                a.greatest[1].max(b.greatest[1]),
+            ],
+        }
+    }
+
+    fn span(&self, axis: usize) -> (i64, i64) {
+        (self.least[axis] as i64, self.greatest[axis] as i64)
+    }
+}
+
+/// The bounds of some rows; the empty row stands for no bounds.
+pub fn bounds(rows: &[Row]) -> Row {
+    let mut all = Row::EMPTY;
+    for row in rows {
+        all = all.join(*row);
+    }
+    all
+}
+
+/// The cells that a method chose in a phase, and its rounds.
+#[derive(Debug, Default, PartialEq, Eq)]
+pub struct Chosen {
+    pub cells: Vec<usize>,
+    pub rounds: usize,
+}
+
+/// One ask put to one live phase: its rows, the rectangle, and d, the asked
+/// time less the phase's reference time.
+pub struct Choice<'a> {
+    pub rows: &'a [Row],
+    pub rectangle: Rectangle,
+    pub d: i64,
+    pub wrong: Wrong,
+}
+
+impl Choice<'_> {
+    /// The choice of a method, 0 to 3.
+    pub fn choose(&self, method: i64) -> Chosen {
+        let all = bounds(self.rows);
+        if all.is_empty() {
+            return Chosen::default();
+        }
+        let naive = self.expand(all);
+        let (block, rounds) = match method {
+            0 | 3 => (Some(naive), 0),
+            1 => (self.narrow(naive), 0),
+            _ => self.iterate(naive),
+        };
+        let mut cells = Vec::new();
+        for run in block.into_iter().flat_map(Block::runs) {
+            cells.extend(run);
+        }
+        if method == 3 {
+            cells.retain(|cell| self.meets(*cell));
+        }
+        Chosen { cells, rounds }
+    }
+
+    fn block_bounds(&self, block: Block) -> Row {
+        let mut all = Row::EMPTY;
+        for run in block.runs() {
+            all = all.join(bounds(&self.rows[run]));
+        }
+        all
+    }
+
+    fn narrow(&self, naive: Block) -> Option<Block> {
+        let found = self.block_bounds(naive);
+        (!found.is_empty()).then(|| self.expand(found))
+    }
+
+    fn iterate(&self, naive: Block) -> (Option<Block>, usize) {
+        let mut block = naive;
+        let mut before = None;
+        let mut rounds = 0;
+        loop {
+            let found = self.block_bounds(block);
+            // By the right rule rounds end by themselves, at 63 at the latest.
+            if before == Some(found) || rounds == 2 * SIDE {
+                return (Some(block), rounds);
+            }
+            rounds += 1;
+            if found.is_empty() {
+                return (None, rounds);
+            }
+            block = self.expand(found);
+            before = Some(found);
+        }
+    }
+
+    /// The size of d, for the formulas with d below 0.
+    fn size(&self) -> i64 {
+        match self.wrong {
+            Wrong::SignedBack => self.d,
+            _ => self.d.abs(),
+        }
+    }
+
+    /// The block of the rectangle expanded by bounds.
+    fn expand(&self, by: Row) -> Block {
+        let mut block = Block {
+            low: [0; 2],
+            high: [0; 2],
+        };
+        for axis in 0..2 {
+            let (least, greatest) = by.span(axis);
+            let (low, high) = (self.rectangle.low[axis], self.rectangle.high[axis]);
+            let (low, high) = if self.d >= 0 {
+                (low - greatest * self.d, high - least * self.d)
+            } else {
+                (low + least * self.size(), high + greatest * self.size())
+            };
+            block.low[axis] = crate::grid::column(low);
+            block.high[axis] = crate::grid::column(high);
+        }
+        block
+    }
+
+    /// Whether the cell's row is nonempty and the cell, moved by its row's
+    /// speeds over d, meets the rectangle.
+    fn meets(&self, cell: usize) -> bool {
+        let row = &self.rows[cell];
+        let places = places(cell);
+        !row.is_empty() && (0..2).all(|axis| self.meets_on(axis, places[axis], row))
+    }
+
+    fn meets_on(&self, axis: usize, place: usize, row: &Row) -> bool {
+        let (least, greatest) = row.span(axis);
+        let low = WIDTH * place as i64;
+        let high = low + WIDTH - 1;
+        let (low, high) = if self.d >= 0 {
+            (low + least * self.d, high + greatest * self.d)
+        } else {
+            (low - greatest * self.size(), high - least * self.size())
+        };
+        let ended = self.wrong == Wrong::EndedEdges;
+        let endless_low = place == 0 && !ended;
+        let endless_high = place == SIDE - 1 && !ended;
+        (endless_low || low <= self.rectangle.high[axis])
+            && (endless_high || self.rectangle.low[axis] <= high)
+    }
+}
