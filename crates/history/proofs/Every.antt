@@ -132,7 +132,7 @@ every-point-matches s t time accepted calls =
 -- ---- every answer of every list, once each ask answers as the ledger does
 
 module _ (ask-agrees : (l : Ledger) (w : Words) → Good l → Matches l w → (method asked : ℤ) (q : Rect) (list : List ℕ) → replyTo w (ask method asked q list) ≡ L.replyTo l (L.ask method asked q (length list))) where
-  call-reply : (l : Ledger) (w : Words) (call : LentCall) → Left l w → replyTo w call ≡ L.replyTo l (fed call)
+  pub call-reply : (l : Ledger) (w : Words) (call : LentCall) → Left l w → replyTo w call ≡ L.replyTo l (fed call)
   call-reply l w (clock time) left = clock-reply l w (left .good) (left .matches) time
   call-reply l w (add r) left = add-reply l w (left .good) (left .matches) r
   call-reply l w (report r) left = report-reply l w (left .good) (left .matches) r

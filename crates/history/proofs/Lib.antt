@@ -9,3 +9,4 @@ pub mod Counted
 pub mod UsefulCells
 pub mod Asks
 pub mod Claims
+pub mod Points
