@@ -1,15 +1,15 @@
--- What the public calls rest on: a refused call leaves the words at entry, an accepted one has passed each check, and the words after a step are
+-- What the calls rest on: a refused call leaves the words at entry, an accepted one has passed each check, and the words after a step are
 -- those of a store.
 -- Assumes nothing.
 use mathlib.Core.Path.{_≡_, refl, sym, ap, ap₂, _∙_}
-use mathlib.Core.Bool.{Bool, true, false, _&&_, _||_, not, cond}
+use mathlib.Core.Bool.{Bool, true, false, _||_, not, cond}
 use mathlib.Core.List.{List, [], _∷_}
 use Prim.Native.Nat.{ℕ, suc, _≤_, _<_}
 use native.Mathlib.Omega.{arith}
-use lib.Dec.{eqb, leb, ltb}
+use lib.Dec.{eqb, leb}
 use lib.IntN.{ℤ}
 use lib.ListN.{length}
-use lib.Signed.{leZ, ltZ}
+use lib.Signed.{ltZ}
 use borrow.Author.Tests.{eqb-true, leb-false, not-false}
 use Rattle.ints.proofs.Parts.{signed, true-false}
 use Rattle.ints.proofs.Truth.{and-left, and-right}
@@ -21,19 +21,19 @@ use Rattle.rows.specs.Phases.{phaseOf}
 use Rattle.rows.specs.Table.{tableWords}
 use Rattle.store.specs.Records.{storeWords, nowOf, recordsOf, storeOf}
 use Rattle.store.specs.Order.{hasId, isSorted}
-use Rattle.store.specs.Soundness.{isSound, allRanged, idsDistinct, IsStore}
-use Rattle.store.specs.Changes.{inserted, removed, placedIn, steppedRecords}
+use Rattle.store.specs.Soundness.{isSound, allRanged, IsStore}
+use Rattle.store.specs.Changes.{inserted, removed, placedIn}
 use Rattle.store.specs.declared.Record.{Record}
 use Rattle.store.proofs.RecordLaws.{now-of-store, records-of-store}
 use Rattle.store.proofs.KeepLaws.{stepped-length, stepped-ranged, stepped-sorted, has-stepped, removed-sorted, removed-ranged, removed-length}
 use Rattle.store.proofs.SoundLaws as Sound
 use Rattle.ledger.specs.Answers.{isAccepted}
-use Rattle.ledger.specs.Refusals.{Check, check, unless, firstToFail, badTime, badStepTime, badAskTime, badReport, badId, badAsk}
+use Rattle.ledger.specs.Refusals.{Check, check, unless, firstToFail, badStepTime, badAskTime, badReport, badAsk}
 use Rattle.ledger.specs.declared.Answer.{Answer}
 use Rattle.ledger.specs.declared.Answer.the-variants.{Accepted, WrongLength, Unsound, BadTime, BadNumber, AlreadyHeld, NotHeld, Full}
-use Rattle.engine.specs.Index.{settled, wrongLength, unsound, lentChecks, recordsAfterStep, tableAfterStep, widenedBy, askAnswer, askOut, idsNeeded}
+use Rattle.engine.specs.Index.{settled, wrongLength, unsound, lentChecks, recordsAfterStep, tableAfterStep, widenedBy, askAnswer, askOut}
 use Rattle.engine.specs.Gives.{Gives, GivesList, CanStep, Stepped, CanPlace, Placed, CanAsk}
-use Rattle.engine.proofs.CheckLaws.{accepted-passed}
+use Rattle.engine.proofs.CheckLaws.{accepted-passed, lent-refused}
 use Rattle.engine.proofs.StepLaws.{store-of, is-store}
 
 -- ---- refused or done
@@ -43,6 +43,11 @@ unfolding settled
 gives-refused a r s t s′ t′ e n =
     let k = sym (ap isAccepted e) ∙ n in
     record { answer-is = e; store-is = sym (ap (λ (b : Bool). cond b s′ s) k); table-is = sym (ap (λ (b : Bool). cond b t′ t) k) }
+
+-- refused for the lent words, whatever checks come after
+pub gives-lent-refused : (s t s′ t′ : List ℤ) (more : List Check) (accepted r : Answer) → r ≡ firstToFail (lentChecks s t []) (Accepted 0) → isAccepted r ≡ false → Gives (settled (firstToFail (lentChecks s t more) accepted) s t s′ t′) r s t
+gives-lent-refused s t s′ t′ more accepted r e n =
+    gives-refused (firstToFail (lentChecks s t more) accepted) r s t s′ t′ (lent-refused s t r e more accepted n) n
 
 pub gives-done : (a r : Answer) (s t s′ t′ s″ t″ : List ℤ) → r ≡ a → isAccepted r ≡ true → s″ ≡ s′ → t″ ≡ t′ → Gives (settled a s t s′ t′) r s″ t″
 unfolding settled
@@ -61,24 +66,18 @@ or-neither : (a b : Bool) → a || b ≡ false → (a ≡ false) × (b ≡ false
 or-neither true b h = absurd (true-false h)
 or-neither false b h = (refl, h)
 
-module _ (s t : List ℤ) (time : ℤ) (more : List Check) (accepted : Answer) (h : isAccepted (firstToFail (lentChecks s t (check (badStepTime (nowOf s) time) BadTime ∷ more)) accepted) ≡ true) where
-  lent : (wrongLength s t ≡ false) × (isAccepted (firstToFail (check (unsound s t) Unsound ∷ check (badStepTime (nowOf s) time) BadTime ∷ more) accepted) ≡ true)
-  lent = accepted-passed (wrongLength s t) WrongLength _ accepted refl h
-
-  then : (unsound s t ≡ false) × (isAccepted (firstToFail (check (badStepTime (nowOf s) time) BadTime ∷ more) accepted) ≡ true)
-  then = accepted-passed (unsound s t) Unsound _ accepted refl (lent .1)
-
-  last : (badStepTime (nowOf s) time ≡ false) × (isAccepted (firstToFail more accepted) ≡ true)
-  last = accepted-passed (badStepTime (nowOf s) time) BadTime more accepted refl (then .1)
+module _ (s t : List ℤ) (sound : isSound s t ≡ true) (time : ℤ) (more : List Check) (accepted : Answer) (h : isAccepted (firstToFail (check (badStepTime (nowOf s) time) BadTime ∷ more) accepted) ≡ true) where
+  passed : (badStepTime (nowOf s) time ≡ false) × (isAccepted (firstToFail more accepted) ≡ true)
+  passed = accepted-passed (badStepTime (nowOf s) time) BadTime more accepted refl h
 
   pub can-step : CanStep s t time
   can-step =
-      let n = or-neither (not (isTime time)) (ltZ time (nowOf s)) (last .0) in
+      let n = or-neither (not (isTime time)) (ltZ time (nowOf s)) (passed .0) in
       let later = n .1 in
-      record { sound = not-false _ (then .0); is-time = not-false _ (n .0); not-past = omega (arith, signed) }
+      record { sound = sound; is-time = not-false _ (n .0); not-past = omega (arith, signed) }
 
   pub rest-accepted : isAccepted (firstToFail more accepted) ≡ true
-  rest-accepted = last .1
+  rest-accepted = passed .1
 
 -- ---- after a step
 
@@ -147,13 +146,11 @@ ask-refused s t method asked q list r e n =
     go false false false true rest h = refl
     go false false false false rest h = absurd (true-false h)
 
-pub ask-passed : (s t : List ℤ) (method asked : ℤ) (q : Rect) (r : Answer) → r ≡ firstToFail (lentChecks s t (check (badAskTime (nowOf s) asked) BadTime ∷ check (badAsk method q) BadNumber ∷ [])) (Accepted 0) → isAccepted r ≡ true → CanAsk s t method asked q
-ask-passed s t method asked q r e n =
-    let a = accepted-passed (wrongLength s t) WrongLength _ (Accepted 0) refl (sym (ap isAccepted e) ∙ n) in
-    let b = accepted-passed (unsound s t) Unsound _ (Accepted 0) refl (a .1) in
-    let c = accepted-passed (badAskTime (nowOf s) asked) BadTime _ (Accepted 0) refl (b .1) in
-    let d = accepted-passed (badAsk method q) BadNumber [] (Accepted 0) refl (c .1) in
-    record { sound = not-false _ (b .0); good-time = c .0; good-numbers = d .0 }
+pub ask-passed : (s t : List ℤ) → isSound s t ≡ true → (method asked : ℤ) (q : Rect) (r : Answer) → r ≡ firstToFail (check (badAskTime (nowOf s) asked) BadTime ∷ check (badAsk method q) BadNumber ∷ []) (Accepted 0) → isAccepted r ≡ true → CanAsk s t method asked q
+ask-passed s t sound method asked q r e n =
+    let a = accepted-passed (badAskTime (nowOf s) asked) BadTime _ (Accepted 0) refl (sym (ap isAccepted e) ∙ n) in
+    let b = accepted-passed (badAsk method q) BadNumber [] (Accepted 0) refl (a .1) in
+    record { sound = sound; good-time = a .0; good-numbers = b .0 }
 
 -- ---- placing after a step
 

@@ -2,15 +2,15 @@
 -- words, leave for the others.
 -- Assumes nothing.
 use mathlib.Core.Path.{_≡_, refl, sym, ap, _∙_}
-use mathlib.Core.Bool.{Bool, true, false, _&&_, not}
+use mathlib.Core.Bool.{Bool, true, false, not}
 use mathlib.Core.List.{List, [], _∷_}
-use Prim.Native.Nat.{ℕ, suc, _<_}
-use native.Mathlib.Omega.{arith}
+use Prim.Native.Nat.{suc}
 use lib.Dec.{eqb}
 use lib.IntN.{ℤ}
 use lib.ListN.{length}
-use borrow.Author.Tests.{not-false}
+use borrow.Author.Tests.{eq-eqb, not-false}
 use Rattle.ints.proofs.Parts.{true-false}
+use Rattle.ints.proofs.Truth.{and-true}
 use Rattle.store.specs.Records.{storeWords, nowOf, recordsOf}
 use Rattle.store.proofs.RecordLaws.{store-length}
 use Rattle.store.specs.Soundness.{isSound, IsStore}
@@ -19,6 +19,7 @@ use Rattle.store.specs.Changes.{removed, steppedRecords}
 use Rattle.store.proofs.KeepLaws.{removed-length, has-stepped, stepped-length}
 use Rattle.store.proofs.SoundLaws as Sound
 use Rattle.rows.specs.Phases.{phaseOf}
+use Rattle.rows.specs.Table.{tableWords}
 use Rattle.ledger.specs.Answers.{isAccepted}
 use Rattle.ledger.specs.Refusals.{Check, check, unless, firstToFail}
 use Rattle.ledger.specs.declared.Answer.{Answer}
@@ -49,9 +50,6 @@ accepted-passed false a cs accepted n h = (refl, h)
 
 -- ---- the first two checks, of the lent words
 
-abbrev Lent : List ℤ → List ℤ → Answer
-Lent s t = firstToFail (lentChecks s t []) (Accepted 0)
-
 module _ (s t : List ℤ) (r : Answer) (e : r ≡ firstToFail (lentChecks s t []) (Accepted 0)) where
   pub lent-refused : (more : List Check) (accepted : Answer) → isAccepted r ≡ false → r ≡ firstToFail (lentChecks s t more) accepted
   unfolding firstToFail
@@ -62,18 +60,18 @@ module _ (s t : List ℤ) (r : Answer) (e : r ≡ firstToFail (lentChecks s t []
       go false true h = refl
       go false false h = absurd (true-false h)
 
-  lent-passes : isAccepted r ≡ true → (wrongLength s t ≡ false) × (unsound s t ≡ false)
-  lent-passes n =
-      let x = accepted-passed (wrongLength s t) WrongLength (check (unsound s t) Unsound ∷ []) (Accepted 0) refl (sym (ap isAccepted e) ∙ n) in
-      (x .0, accepted-passed (unsound s t) Unsound [] (Accepted 0) refl (x .1) .0)
-
   pub lent-sound : isAccepted r ≡ true → isSound s t ≡ true
-  lent-sound n = not-false (isSound s t) (lent-passes n .1)
+  lent-sound n =
+      let x = accepted-passed (wrongLength s t) WrongLength (check (unsound s t) Unsound ∷ []) (Accepted 0) refl (sym (ap isAccepted e) ∙ n) in
+      not-false (isSound s t) (accepted-passed (unsound s t) Unsound [] (Accepted 0) refl (x .1) .0)
 
-  pub lent-passed : (more : List Check) (accepted a : Answer) → isAccepted r ≡ true → a ≡ firstToFail more accepted → a ≡ firstToFail (lentChecks s t more) accepted
-  lent-passed more accepted a n h =
-      passes (wrongLength s t) WrongLength (check (unsound s t) Unsound ∷ more) accepted a (lent-passes n .0)
-      (passes (unsound s t) Unsound more accepted a (lent-passes n .1) h)
+-- sound words pass both
+pub sound-passed : (s t : List ℤ) → isSound s t ≡ true → (more : List Check) (accepted a : Answer) → a ≡ firstToFail more accepted → a ≡ firstToFail (lentChecks s t more) accepted
+sound-passed s t h more accepted a e =
+    let p = Sound.sound-parts s t h in
+    let long = and-true (eqb (length s) storeWords) (eqb (length t) tableWords) (eq-eqb (length s) storeWords (p .store .long)) (eq-eqb (length t) tableWords (p .table-long)) in
+    passes (wrongLength s t) WrongLength (check (unsound s t) Unsound ∷ more) accepted a (ap not long)
+    (passes (unsound s t) Unsound more accepted a (ap not h) e)
 
 pub sound-is-store : (s t : List ℤ) → isSound s t ≡ true → IsStore s
 sound-is-store s t h = Sound.is-store s (Sound.sound-parts s t h .store)

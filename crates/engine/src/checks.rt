@@ -1,5 +1,5 @@
-// The answers that the public calls give: checks in number order, the first to fail is given, and an accepted call's answer is `Accepted`. The
-// `sound_` functions go by the numbers and the records alone, for callers that know their buffers to be sound.
+// The checks of the calls, in number order, the first to fail given, `Accepted` where all pass: those of the lent buffers (`lent_answer`), and those
+// that go by the numbers and the records of buffers known to be sound.
 ghost use mathlib.Core.Path.{_≡_};
 ghost use mathlib.Core.Bool.{_&&_};
 ghost use mathlib.Core.List.{[], _∷_};
@@ -158,7 +158,7 @@ fn bad_ask(method: i32, q: Rect) -> bool
 }
 
 // 1 and 2.
-fn lent_answer(store: &[i32], table: &[i16]) -> Answer
+pub fn lent_answer(store: &[i32], table: &[i16]) -> Answer
     ensures { λ r. ⌜ r ≡ firstToFail (lentChecks (now (store .entry)) (now (table .entry)) []) (Accepted 0) ⌝ }
 {
     if wrong_length(store, table) {
@@ -182,7 +182,7 @@ pub fn open_answer(store: &[i32], table: &[i16], t: i32) -> Answer
     Answer::Accepted(0)
 }
 
-pub fn sound_clock_answer(store: &[i32], t: i32) -> Answer
+pub fn clock_answer(store: &[i32], t: i32) -> Answer
     requires { ⌜ IsStore (now store) ⌝ }
     ensures { λ r. ⌜ r ≡ firstToFail (clockChecks (now (store .entry)) t) (Accepted (length (recordsOf (now (store .entry))))) ⌝ }
 {
@@ -192,17 +192,7 @@ pub fn sound_clock_answer(store: &[i32], t: i32) -> Answer
     Answer::Accepted(store::held_of(store))
 }
 
-pub fn clock_answer(store: &[i32], table: &[i16], t: i32) -> Answer
-    ensures { λ r. ⌜ r ≡ firstToFail (lentChecks (now (store .entry)) (now (table .entry)) (clockChecks (now (store .entry)) t)) (Accepted (length (recordsOf (now (store .entry))))) ⌝ }
-{
-    let lent = lent_answer(store, table);
-    if !is_accepted(lent) {
-        return lent;
-    }
-    sound_clock_answer(store, t)
-}
-
-pub fn sound_add_answer(store: &[i32], r: Report) -> Answer
+pub fn add_answer(store: &[i32], r: Report) -> Answer
     requires { ⌜ IsStore (now store) ⌝ }
     ensures { λ a. ⌜ a ≡ firstToFail (addChecks (now (store .entry)) r) (Accepted (suc (length (recordsOf (now (store .entry)))))) ⌝ }
 {
@@ -222,17 +212,7 @@ pub fn sound_add_answer(store: &[i32], r: Report) -> Answer
     Answer::Accepted(held + 1)
 }
 
-pub fn add_answer(store: &[i32], table: &[i16], r: Report) -> Answer
-    ensures { λ a. ⌜ a ≡ firstToFail (lentChecks (now (store .entry)) (now (table .entry)) (addChecks (now (store .entry)) r)) (Accepted (suc (length (recordsOf (now (store .entry)))))) ⌝ }
-{
-    let lent = lent_answer(store, table);
-    if !is_accepted(lent) {
-        return lent;
-    }
-    sound_add_answer(store, r)
-}
-
-pub fn sound_report_answer(store: &[i32], r: Report) -> Answer
+pub fn report_answer(store: &[i32], r: Report) -> Answer
     requires { ⌜ IsStore (now store) ⌝ }
     ensures { λ a. ⌜ a ≡ firstToFail (reportChecks (now (store .entry)) r) (Accepted (length (recordsOf (now (store .entry))))) ⌝ }
 {
@@ -248,17 +228,7 @@ pub fn sound_report_answer(store: &[i32], r: Report) -> Answer
     Answer::Accepted(store::held_of(store))
 }
 
-pub fn report_answer(store: &[i32], table: &[i16], r: Report) -> Answer
-    ensures { λ a. ⌜ a ≡ firstToFail (lentChecks (now (store .entry)) (now (table .entry)) (reportChecks (now (store .entry)) r)) (Accepted (length (recordsOf (now (store .entry))))) ⌝ }
-{
-    let lent = lent_answer(store, table);
-    if !is_accepted(lent) {
-        return lent;
-    }
-    sound_report_answer(store, r)
-}
-
-pub fn sound_drop_answer(store: &[i32], id: i32, t: i32) -> Answer
+pub fn drop_answer(store: &[i32], id: i32, t: i32) -> Answer
     requires { ⌜ IsStore (now store) ⌝ }
     ensures { λ r. ⌜ r ≡ firstToFail (dropChecks (now (store .entry)) id t) (Accepted (length (removed id (recordsAfterStep (now (store .entry)) t)))) ⌝ }
 {
@@ -274,18 +244,8 @@ pub fn sound_drop_answer(store: &[i32], id: i32, t: i32) -> Answer
     Answer::Accepted(store::held_of(store) - 1)
 }
 
-pub fn drop_answer(store: &[i32], table: &[i16], id: i32, t: i32) -> Answer
-    ensures { λ r. ⌜ r ≡ firstToFail (lentChecks (now (store .entry)) (now (table .entry)) (dropChecks (now (store .entry)) id t)) (Accepted (length (removed id (recordsAfterStep (now (store .entry)) t)))) ⌝ }
-{
-    let lent = lent_answer(store, table);
-    if !is_accepted(lent) {
-        return lent;
-    }
-    sound_drop_answer(store, id, t)
-}
-
 // The checks of an ask but the last, which wants the ids found.
-pub fn sound_ask_refusal(store: &[i32], method: i32, asked: i32, q: Rect) -> Answer
+pub fn ask_refusal(store: &[i32], method: i32, asked: i32, q: Rect) -> Answer
     requires { ⌜ IsStore (now store) ⌝ }
     ensures { λ r. ⌜ r ≡ firstToFail (check (badAskTime (nowOf (now (store .entry))) asked) BadTime ∷ check (badAsk method q) BadNumber ∷ []) (Accepted 0) ⌝ }
 {
@@ -296,14 +256,4 @@ pub fn sound_ask_refusal(store: &[i32], method: i32, asked: i32, q: Rect) -> Ans
         return Answer::BadNumber;
     }
     Answer::Accepted(0)
-}
-
-pub fn ask_refusal(store: &[i32], table: &[i16], method: i32, asked: i32, q: Rect) -> Answer
-    ensures { λ r. ⌜ r ≡ firstToFail (lentChecks (now (store .entry)) (now (table .entry)) (check (badAskTime (nowOf (now (store .entry))) asked) BadTime ∷ check (badAsk method q) BadNumber ∷ [])) (Accepted 0) ⌝ }
-{
-    let lent = lent_answer(store, table);
-    if !is_accepted(lent) {
-        return lent;
-    }
-    sound_ask_refusal(store, method, asked, q)
 }

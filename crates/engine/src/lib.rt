@@ -1,10 +1,12 @@
-// The index: its six public calls over lent buffers, with any numbers and any buffers. Each answers and leaves what its definition says.
+// The index: its six public calls over lent buffers, with any numbers and any buffers. Each answers and leaves what its definition says. All but
+// open test the buffers and then make the call of their name over sound ones.
 ghost use mathlib.Core.Path.{_≡_};
 ghost use Rattle.engine.specs.Index.{openOut, clockOut, addOut, reportOut, dropOut, askOut};
 ghost use Rattle.engine.specs.Gives.{Gives, GivesList};
 
 pub mod asking;
 pub mod checks;
+pub mod sound;
 pub mod step;
 
 use grid::Rect;
@@ -28,52 +30,44 @@ pub fn open(store: &mut [i32], table: &mut [i16], t: i32) -> Answer
 pub fn clock(store: &mut [i32], table: &mut [i16], t: i32) -> Answer
     ensures { λ r. ⌜ Gives (clockOut (now (store .entry)) (now (table .entry)) t) r (now (store .exit)) (now (table .exit)) ⌝ }
 {
-    let answer = checks::clock_answer(&store[..], &table[..], t);
-    if !checks::is_accepted(answer) {
-        return answer;
+    let lent = checks::lent_answer(&store[..], &table[..]);
+    if !checks::is_accepted(lent) {
+        return lent;
     }
-    step::step(store, table, t);
-    answer
+    sound::clock(store, table, t)
 }
 
 // A float that was not held sends its first report.
 pub fn add(store: &mut [i32], table: &mut [i16], r: Report) -> Answer
     ensures { λ a. ⌜ Gives (addOut (now (store .entry)) (now (table .entry)) r) a (now (store .exit)) (now (table .exit)) ⌝ }
 {
-    let answer = checks::add_answer(&store[..], &table[..], r);
-    if !checks::is_accepted(answer) {
-        return answer;
+    let lent = checks::lent_answer(&store[..], &table[..]);
+    if !checks::is_accepted(lent) {
+        return lent;
     }
-    step::step(store, table, r.t);
-    step::place(store, table, r);
-    answer
+    sound::add(store, table, r)
 }
 
 // A held float sends a new report.
 pub fn report(store: &mut [i32], table: &mut [i16], r: Report) -> Answer
     ensures { λ a. ⌜ Gives (reportOut (now (store .entry)) (now (table .entry)) r) a (now (store .exit)) (now (table .exit)) ⌝ }
 {
-    let answer = checks::report_answer(&store[..], &table[..], r);
-    if !checks::is_accepted(answer) {
-        return answer;
+    let lent = checks::lent_answer(&store[..], &table[..]);
+    if !checks::is_accepted(lent) {
+        return lent;
     }
-    step::step(store, table, r.t);
-    store::changes::remove(store, r.id);
-    step::place(store, table, r);
-    answer
+    sound::report(store, table, r)
 }
 
 // A held float is taken out at time t.
 pub fn drop(store: &mut [i32], table: &mut [i16], id: i32, t: i32) -> Answer
     ensures { λ r. ⌜ Gives (dropOut (now (store .entry)) (now (table .entry)) id t) r (now (store .exit)) (now (table .exit)) ⌝ }
 {
-    let answer = checks::drop_answer(&store[..], &table[..], id, t);
-    if !checks::is_accepted(answer) {
-        return answer;
+    let lent = checks::lent_answer(&store[..], &table[..]);
+    if !checks::is_accepted(lent) {
+        return lent;
     }
-    step::step(store, table, t);
-    store::changes::remove(store, id);
-    answer
+    sound::drop(store, table, id, t)
 }
 
 // The floats predicted inside a rectangle at the asked time, by a method's choice of cells. The ids are written in front of the list.
@@ -87,9 +81,9 @@ pub fn ask(
 ) -> Answer
     ensures { λ r. ⌜ GivesList (askOut (now (store .entry)) (now (table .entry)) method asked q (now (list .entry))) r (now (list .exit)) ⌝ }
 {
-    let why = checks::ask_refusal(store, table, method, asked, q);
-    if !checks::is_accepted(why) {
-        return why;
+    let lent = checks::lent_answer(store, table);
+    if !checks::is_accepted(lent) {
+        return lent;
     }
-    asking::ask_sound(store, table, list, method, asked, q)
+    sound::ask(store, table, list, method, asked, q)
 }

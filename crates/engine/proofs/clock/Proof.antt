@@ -1,49 +1,21 @@
--- `engine::clock` meets its contract: refused, nothing changes; accepted, the clock step.
+-- `engine::clock` meets its contract: refused for its buffers, nothing changes; else the call over sound ones.
 -- Assumes nothing.
-use mathlib.Core.Path.{_≡_, refl, sym, ap, _∙_}
+use mathlib.Core.Path.{sym, _∙_}
 use borrow.Author.Needs.{needs}
 use borrow.Author.Tests.{not-true, not-false}
-use mir.Syntax.{w32, w64}
-use Rattle.ints.proofs.Machine.{held, tested₁, tested₂}
-use native.Mathlib.Omega.{arith}
-use mathlib.Core.Bool.{Bool, true, false}
-use mathlib.Core.List.{List, [], _∷_}
-use Prim.Native.Nat.{suc}
-use lib.IntN.{ℤ}
-use lib.ListN.{length}
-use Rattle.ledger.specs.Refusals.{Check, check, firstToFail, badTime, badStepTime, badReport, badId}
-use Rattle.ledger.specs.declared.Answer.{Answer}
-use Rattle.ledger.specs.declared.Answer.the-variants.{Accepted, WrongLength, Unsound, BadTime, BadNumber, AlreadyHeld, NotHeld, Full}
-use Rattle.ledger.specs.Answers.{isAccepted}
-use Rattle.store.specs.Records.{nowOf, recordsOf, storeOf}
-use Rattle.store.specs.Order.{hasId}
-use Rattle.store.specs.Changes.{inserted, removed, placedIn}
-use Rattle.rows.specs.Phases.{phaseOf}
-use Rattle.grid.specs.Units.{capacity}
-use Rattle.engine.specs.Index.{lentChecks, clockChecks, clockOut, recordsAfterStep, tableAfterStep}
-use Rattle.engine.specs.Gives.{CanStep, Stepped}
-use Rattle.engine.proofs.CallLaws.{gives-refused, gives-done, can-step}
+use mir.Syntax.{w32}
+use Rattle.ints.proofs.Machine.{held}
+use Rattle.engine.specs.Index.{clockOut}
+use Rattle.engine.proofs.CheckLaws.{lent-sound}
+use Rattle.engine.proofs.CallLaws.{gives-lent-refused}
 use Rattle.engine.proofs.clock.Statement.{statement}
 use Rattle.engine.proofs.clock.Tie as tie
 
-clock-answer-requires : tie.Need-clock-answer-requires
-clock-answer-requires c κs = search needs
+lent-answer-requires : tie.Need-lent-answer-requires
+lent-answer-requires c κs = search needs
 
 is-accepted-requires : tie.Need-is-accepted-requires
 is-accepted-requires c κs = search needs
-
-answer-is : (c : tie.After-clock-answer) → c .clock-answer .result ≡ firstToFail (lentChecks (c .before .before .before .args .store .now) (c .before .before .before .args .table .now) (clockChecks (c .before .before .before .args .store .now) (c .before .before .before .args .t))) (Accepted (length (recordsOf (c .before .before .before .args .store .now))))
-answer-is c =
-    let a = c .before .before .before .args in
-    tested₁ w32 (λ (t : ℤ). firstToFail (lentChecks (a .store .now) (a .table .now) (clockChecks (a .store .now) t)) (Accepted (length (recordsOf (a .store .now))))) (c .clock-answer .result) (a .t) (c .clock-answer .ensures) (search needs)
-
-accepted : (c : tie.Else1) → isAccepted (c .before .before .clock-answer .result) ≡ true
-accepted c = sym (c .before .is-accepted .ensures) ∙ not-false (c .before .is-accepted .result) (c .if1 .left)
-
-can : (c : tie.Else1) → CanStep (c .before .before .before .before .before .args .store .now) (c .before .before .before .before .before .args .table .now) (c .before .before .before .before .before .args .t)
-can c =
-    let a = c .before .before .before .before .before .args in
-    can-step (a .store .now) (a .table .now) (a .t) [] (Accepted (length (recordsOf (a .store .now)))) (sym (ap isAccepted (answer-is (c .before .before))) ∙ accepted c)
 
 same-length : tie.Need-same-length
 same-length c = search needs
@@ -56,10 +28,16 @@ unfolding clockOut
 returns c =
     let o = c .before .before in
     let a = o .before .before .before .args in
-    gives-refused (firstToFail (lentChecks (a .store .now) (a .table .now) (clockChecks (a .store .now) (a .t))) (Accepted (length (recordsOf (a .store .now))))) (o .clock-answer .result) (a .store .now) (a .table .now) _ _ (answer-is o) (sym (c .before .is-accepted .ensures) ∙ not-true (c .before .is-accepted .result) (c .if1 .taken))
+    gives-lent-refused (a .store .now) (a .table .now) _ _ _ _ (o .lent-answer .result) (o .lent-answer .ensures)
+    (sym (c .before .is-accepted .ensures) ∙ not-true (c .before .is-accepted .result) (c .if1 .taken))
 
-step-requires : tie.Need-step-requires
-step-requires c κs = let e = c .before .before in let a = e .before .before .before .before .before .args in rw (held w32 (a .t) (search needs)) (can e)
+clock-requires : tie.Need-clock-requires
+clock-requires c κs =
+    let e = c .before .before in
+    let o = e .before .before in
+    let a = o .before .before .before .args in
+    lent-sound (a .store .now) (a .table .now) (o .lent-answer .result) (o .lent-answer .ensures)
+    (sym (e .before .is-accepted .ensures) ∙ not-false (e .before .is-accepted .result) (e .if1 .left))
 
 same-length-3 : tie.Need-same-length-3
 same-length-3 c = search needs
@@ -67,17 +45,11 @@ same-length-3 c = search needs
 same-length-4 : tie.Need-same-length-4
 same-length-4 c = search needs
 
-stepped : (c : tie.After-step) → Stepped (c .before .before .before .before .before .before .before .before .args .store .now) (c .before .before .before .before .before .before .before .before .args .table .now) (c .before .before .before .before .before .before .before .before .args .t) (c .step .last .0) (c .step .last .1 .0)
-stepped c = let a = c .before .before .before .before .before .before .before .before .args in rw (held w32 (a .t) (search needs)) at (c .step .ensures)
-
 returns-2 : tie.Need-returns-2
-unfolding clockOut
 returns-2 c =
-    let s = c .before .before in
-    let e = s .before .before .before in
-    let o = e .before .before in
-    let a = o .before .before .before .args in
-    gives-done (firstToFail (lentChecks (a .store .now) (a .table .now) (clockChecks (a .store .now) (a .t))) (Accepted (length (recordsOf (a .store .now))))) (o .clock-answer .result) (a .store .now) (a .table .now) _ _ (s .step .last .0) (s .step .last .1 .0) (answer-is o) (accepted e) (stepped s .store-is) (stepped s .table-is)
+    let k = c .before .before in
+    let a = k .before .before .before .before .before .before .before .before .args in
+    rw (held w32 (a .t) (search needs)) at (k .clock .ensures)
 
 pub clock-spec : {M : Type 1} → statement M
-clock-spec = tie.close (tie.spec clock-answer-requires is-accepted-requires same-length same-length-2 returns step-requires same-length-3 same-length-4 returns-2)
+clock-spec = tie.close (tie.spec lent-answer-requires is-accepted-requires same-length same-length-2 returns clock-requires same-length-3 same-length-4 returns-2)

@@ -1,56 +1,19 @@
--- `engine::report` meets its contract: refused, nothing changes; accepted, the clock step, the old report out and the new one in.
+-- `engine::report` meets its contract: refused for its buffers, nothing changes; else the call over sound ones.
 -- Assumes nothing.
-use mathlib.Core.Path.{_≡_, refl, sym, ap, _∙_}
+use mathlib.Core.Path.{sym, _∙_}
 use borrow.Author.Needs.{needs}
 use borrow.Author.Tests.{not-true, not-false}
-use mir.Syntax.{w32, w64}
-use Rattle.ints.proofs.Machine.{held, tested₁, tested₂}
-use native.Mathlib.Omega.{arith}
-use mathlib.Core.Bool.{Bool, true, false}
-use mathlib.Core.List.{List, [], _∷_}
-use Prim.Native.Nat.{suc}
-use lib.IntN.{ℤ}
-use lib.ListN.{length}
-use Rattle.ledger.specs.Refusals.{Check, check, firstToFail, badTime, badStepTime, badReport, badId}
-use Rattle.ledger.specs.declared.Answer.{Answer}
-use Rattle.ledger.specs.declared.Answer.the-variants.{Accepted, WrongLength, Unsound, BadTime, BadNumber, AlreadyHeld, NotHeld, Full}
-use Rattle.ledger.specs.Answers.{isAccepted}
-use Rattle.store.specs.Records.{nowOf, recordsOf, storeOf}
-use Rattle.store.specs.Order.{hasId}
-use Rattle.store.specs.Changes.{inserted, removed, placedIn}
-use Rattle.rows.specs.Phases.{phaseOf}
-use Rattle.grid.specs.Units.{capacity}
-use lib.Dec.{leb}
-use mathlib.Core.Bool.{not}
-use Rattle.rows.specs.Table.{tableWords}
-use Rattle.grid.specs.Reports.{inRange}
-use Rattle.engine.specs.Gives.{CanStep, Stepped, CanPlace, Placed}
-use Prim.Native.Nat.{_<_}
-use Rattle.engine.specs.Index.{lentChecks, reportChecks, reportOut}
-use Rattle.engine.proofs.StepLaws.{table-long}
-use Rattle.engine.proofs.CallLaws.{gives-refused, gives-done, can-step, rest-accepted, report-passed, stepped-store, can-place-again, placed-again}
+use Rattle.engine.specs.Index.{reportOut}
+use Rattle.engine.proofs.CheckLaws.{lent-sound}
+use Rattle.engine.proofs.CallLaws.{gives-lent-refused}
 use Rattle.engine.proofs.report.Statement.{statement}
 use Rattle.engine.proofs.report.Tie as tie
 
-report-answer-requires : tie.Need-report-answer-requires
-report-answer-requires c κs = search needs
+lent-answer-requires : tie.Need-lent-answer-requires
+lent-answer-requires c κs = search needs
 
 is-accepted-requires : tie.Need-is-accepted-requires
 is-accepted-requires c κs = search needs
-
-accepted : (c : tie.Else1) → isAccepted (c .before .before .report-answer .result) ≡ true
-accepted c = sym (c .before .is-accepted .ensures) ∙ not-false (c .before .is-accepted .result) (c .if1 .left)
-
-passed : (c : tie.Else1) → isAccepted (firstToFail (lentChecks (c .before .before .before .before .before .args .store .now) (c .before .before .before .before .before .args .table .now) (reportChecks (c .before .before .before .before .before .args .store .now) (c .before .before .before .before .before .args .r))) (Accepted (length (recordsOf (c .before .before .before .before .before .args .store .now))))) ≡ true
-passed c = sym (ap isAccepted (c .before .before .report-answer .ensures)) ∙ accepted c
-
-can : (c : tie.Else1) → CanStep (c .before .before .before .before .before .args .store .now) (c .before .before .before .before .before .args .table .now) (c .before .before .before .before .before .args .r .t)
-can c = let a = c .before .before .before .before .before .args in can-step (a .store .now) (a .table .now) (a .r .t) (check (badReport (a .r)) BadNumber ∷ check (not (hasId (a .r .id) (recordsOf (a .store .now)))) NotHeld ∷ []) (Accepted (length (recordsOf (a .store .now)))) (passed c)
-
-numbers : (c : tie.Else1) → (inRange (c .before .before .before .before .before .args .r) ≡ true) × (hasId (c .before .before .before .before .before .args .r .id) (recordsOf (c .before .before .before .before .before .args .store .now)) ≡ true)
-numbers c =
-    let a = c .before .before .before .before .before .args in
-    report-passed (a .r) (recordsOf (a .store .now)) (Accepted (length (recordsOf (a .store .now)))) (rest-accepted (a .store .now) (a .table .now) (a .r .t) (check (badReport (a .r)) BadNumber ∷ check (not (hasId (a .r .id) (recordsOf (a .store .now)))) NotHeld ∷ []) (Accepted (length (recordsOf (a .store .now)))) (passed c))
 
 same-length : tie.Need-same-length
 same-length c = search needs
@@ -63,36 +26,16 @@ unfolding reportOut
 returns c =
     let o = c .before .before in
     let a = o .before .before .before .args in
-    gives-refused (firstToFail (lentChecks (a .store .now) (a .table .now) (reportChecks (a .store .now) (a .r))) (Accepted (length (recordsOf (a .store .now))))) (o .report-answer .result) (a .store .now) (a .table .now) _ _ (o .report-answer .ensures) (sym (c .before .is-accepted .ensures) ∙ not-true (c .before .is-accepted .result) (c .if1 .taken))
+    gives-lent-refused (a .store .now) (a .table .now) _ _ _ _ (o .lent-answer .result) (o .lent-answer .ensures)
+    (sym (c .before .is-accepted .ensures) ∙ not-true (c .before .is-accepted .result) (c .if1 .taken))
 
-step-requires : tie.Need-step-requires
-step-requires c κs = let e = c .before .before .before in let a = e .before .before .before .before .before .args in rw (held w32 (a .r .t) (search needs)) (can e)
-
-stepped : (c : tie.After-step) → Stepped (c .before .before .before .before .before .before .before .before .before .args .store .now) (c .before .before .before .before .before .before .before .before .before .args .table .now) (c .before .before .before .before .before .before .before .before .before .args .r .t) (c .step .last .0) (c .step .last .1 .0)
-stepped c = let a = c .before .before .before .before .before .before .before .before .before .args in rw (held w32 (a .r .t) (search needs)) at (c .step .ensures)
-
-long : (c : tie.After-step) → length (c .step .last .1 .0) ≡ tableWords
-long c = let a = c .before .before .before .before .before .before .before .before .before .args in c .step .kept .1 .0 ∙ table-long (a .store .now) (a .table .now) (a .r .t) (can (c .before .before .before .before))
-
-left : (c : tie.After-remove) → c .remove .last .0 ≡ storeOf (nowOf (c .before .before .before .before .before .step .last .0)) (removed (c .before .before .before .before .before .before .before .before .before .before .before .before .before .before .args .r .id) (recordsOf (c .before .before .before .before .before .step .last .0)))
-left c =
-    let s = c .before .before .before .before .before in
-    c .remove .ensures
-    ∙ ap (λ (id : ℤ). storeOf (nowOf (s .step .last .0)) (removed id (recordsOf (s .step .last .0)))) (held w32 (s .before .before .before .before .before .before .before .before .before .args .r .id) (search needs))
-
-remove-requires : tie.Need-remove-requires
-remove-requires c κs =
-    let s = c .before .before .before .before in
-    let a = s .before .before .before .before .before .before .before .before .before .args in
-    stepped-store (a .store .now) (a .table .now) (a .r .t) (can (s .before .before .before .before)) (s .step .last .0) (s .step .last .1 .0) (stepped s)
-
-place-requires : tie.Need-place-requires
-place-requires c κs =
-    let m = c .before .before .before in
-    let s = m .before .before .before .before .before in
-    let e = s .before .before .before .before in
-    let a = s .before .before .before .before .before .before .before .before .before .args in
-    can-place-again (a .store .now) (a .table .now) (a .r) (can e) (s .step .last .0) (s .step .last .1 .0) (stepped s) (long s) (numbers e .0) (m .remove .last .0) (left m) (numbers e .1)
+report-requires : tie.Need-report-requires
+report-requires c κs =
+    let e = c .before .before in
+    let o = e .before .before in
+    let a = o .before .before .before .args in
+    lent-sound (a .store .now) (a .table .now) (o .lent-answer .result) (o .lent-answer .ensures)
+    (sym (e .before .is-accepted .ensures) ∙ not-false (e .before .is-accepted .result) (e .if1 .left))
 
 same-length-3 : tie.Need-same-length-3
 same-length-3 c = search needs
@@ -101,16 +44,7 @@ same-length-4 : tie.Need-same-length-4
 same-length-4 c = search needs
 
 returns-2 : tie.Need-returns-2
-unfolding reportOut
-returns-2 c =
-    let p = c .before .before in
-    let m = p .before .before .before .before in
-    let s = m .before .before .before .before .before in
-    let e = s .before .before .before .before in
-    let o = e .before .before in
-    let a = s .before .before .before .before .before .before .before .before .before .args in
-    let d = placed-again (a .store .now) (a .table .now) (a .r) (can e) (s .step .last .0) (s .step .last .1 .0) (stepped s) (long s) (numbers e .0) (m .remove .last .0) (left m) (p .place .last .0) (p .place .last .1 .0) (p .place .ensures) in
-    gives-done (firstToFail (lentChecks (a .store .now) (a .table .now) (reportChecks (a .store .now) (a .r))) (Accepted (length (recordsOf (a .store .now))))) (o .report-answer .result) (a .store .now) (a .table .now) _ _ (p .place .last .0) (p .place .last .1 .0) (o .report-answer .ensures) (accepted e) (d .0) (d .1)
+returns-2 c = c .before .before .report .ensures
 
 pub report-spec : {M : Type 1} → statement M
-report-spec = tie.close (tie.spec report-answer-requires is-accepted-requires same-length same-length-2 returns step-requires remove-requires place-requires same-length-3 same-length-4 returns-2)
+report-spec = tie.close (tie.spec lent-answer-requires is-accepted-requires same-length same-length-2 returns report-requires same-length-3 same-length-4 returns-2)

@@ -1,51 +1,46 @@
--- `engine::checks::ask_refusal` meets its contract: the lent words first, then the numbers.
+-- `engine::checks::ask_refusal` meets its contract: the time first, then the numbers.
 -- Assumes nothing.
 use mathlib.Core.Path.{_≡_, refl, sym, ap, _∙_}
 use borrow.Author.Needs.{needs}
-use borrow.Author.Tests.{not-true, not-false}
-use Rattle.engine.proofs.CheckLaws.{lent-refused, lent-sound, lent-passed, sound-is-store}
+use native.Mathlib.Omega.{arith}
 use mir.Syntax.{w32, w64}
+use mathlib.Core.Bool.{Bool, true, false, not}
 use lib.IntN.{ℤ}
-use Rattle.ints.proofs.Machine.{tested₁, tested₂}
-use mathlib.Core.List.{List, [], _∷_}
-use lib.ListN.{length}
-use Rattle.ledger.specs.Refusals.{firstToFail, badAskTime, badAsk, check}
-use Rattle.engine.specs.Index.{clockChecks, addChecks, reportChecks, dropChecks, recordsAfterStep}
-use Rattle.store.specs.Records.{nowOf, recordsOf}
-use Rattle.store.specs.Changes.{removed}
 use Rattle.ledger.specs.declared.Answer.the-variants.{Accepted, BadTime, BadNumber}
+use Rattle.ledger.specs.Refusals.{badAskTime, badAsk}
+use Rattle.store.specs.Records.{nowOf, recordsOf}
+use Rattle.ints.proofs.Machine.{tested₁}
+use Rattle.engine.proofs.CheckLaws.{fails, passes, accepts, store-words-of}
 use Rattle.engine.proofs.checks.ask_refusal.Statement.{statement}
 use Rattle.engine.proofs.checks.ask_refusal.Tie as tie
 
-lent-answer-requires : tie.Need-lent-answer-requires
-lent-answer-requires c κs = search needs
+bad-ask-time-requires : tie.Need-bad-ask-time-requires
+bad-ask-time-requires c κs = omega (arith, store-words-of (c .args .store .now) (c .pre))
 
-is-accepted-requires : tie.Need-is-accepted-requires
-is-accepted-requires c κs = search needs
+time-is : (c : tie.After-bad-ask-time) → badAskTime (nowOf (c .before .args .store .now)) (c .before .args .asked) ≡ c .bad-ask-time .result
+time-is c = sym (tested₁ w32 (badAskTime (nowOf (c .before .args .store .now))) (c .bad-ask-time .result) (c .before .args .asked) (c .bad-ask-time .ensures) (search needs))
+
+numbers-are : (c : tie.After-bad-ask) → badAsk (c .before .before .before .args .method) (c .before .before .before .args .q) ≡ c .bad-ask .result
+numbers-are c =
+    let a = c .before .before .before .args in
+    sym (tested₁ w32 (λ (m : ℤ). badAsk m (a .q)) (c .bad-ask .result) (a .method) (c .bad-ask .ensures) (search needs))
 
 returns : tie.Need-returns
-returns c =
-    let l = c .before .before in
-    let a = l .before .args in
-    lent-refused (a .store .now) (a .table .now) (l .lent-answer .result) (l .lent-answer .ensures) _ _
-    (sym (c .before .is-accepted .ensures) ∙ not-true (c .before .is-accepted .result) (c .if1 .taken))
+returns c = fails _ BadTime _ _ (time-is (c .before) ∙ c .if1 .taken)
 
-sound-ask-refusal-requires : tie.Need-sound-ask-refusal-requires
-sound-ask-refusal-requires c κs =
-    let l = c .before .before in
-    let a = l .before .args in
-    sound-is-store (a .store .now) (a .table .now)
-    (lent-sound (a .store .now) (a .table .now) (l .lent-answer .result) (l .lent-answer .ensures)
-    (sym (c .before .is-accepted .ensures) ∙ not-false (c .before .is-accepted .result) (c .if1 .left)))
+bad-ask-requires : tie.Need-bad-ask-requires
+bad-ask-requires c κs = search needs
 
 returns-2 : tie.Need-returns-2
 returns-2 c =
-    let k = c .before in
-    let l = k .before .before in
-    let a = l .before .args in
-    lent-passed (a .store .now) (a .table .now) (l .lent-answer .result) (l .lent-answer .ensures) _ _ (c .sound-ask-refusal .result)
-    (sym (k .before .is-accepted .ensures) ∙ not-false (k .before .is-accepted .result) (k .if1 .left))
-    (tested₂ w32 (λ (m t : ℤ). firstToFail (check (badAskTime (nowOf (a .store .now)) t) BadTime ∷ check (badAsk m (a .q)) BadNumber ∷ []) (Accepted 0)) (c .sound-ask-refusal .result) (a .method) (a .asked) (c .sound-ask-refusal .ensures) (search needs) (search needs))
+    let b = c .before .before in
+    passes _ BadTime _ _ _ (time-is (b .before) ∙ b .if1 .left) (fails _ BadNumber _ _ (numbers-are (c .before) ∙ c .if2 .taken))
+
+returns-3 : tie.Need-returns-3
+returns-3 c =
+    let b = c .before .before in
+    passes _ BadTime _ _ _ (time-is (b .before) ∙ b .if1 .left)
+    (passes _ BadNumber _ _ _ (numbers-are (c .before) ∙ c .if2 .left) (accepts _ _ refl))
 
 pub ask-refusal-spec : {M : Type 1} → statement M
-ask-refusal-spec = tie.close (tie.spec lent-answer-requires is-accepted-requires returns sound-ask-refusal-requires returns-2)
+ask-refusal-spec = tie.close (tie.spec bad-ask-time-requires returns bad-ask-requires returns-2 returns-3)

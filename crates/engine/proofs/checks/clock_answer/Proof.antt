@@ -1,51 +1,33 @@
--- `engine::checks::clock_answer` meets its contract: the lent words first, then the numbers.
+-- `engine::checks::clock_answer` meets its contract: the time first; the floats held are the records.
 -- Assumes nothing.
 use mathlib.Core.Path.{_≡_, refl, sym, ap, _∙_}
 use borrow.Author.Needs.{needs}
-use borrow.Author.Tests.{not-true, not-false}
-use Rattle.engine.proofs.CheckLaws.{lent-refused, lent-sound, lent-passed, sound-is-store}
+use native.Mathlib.Omega.{arith}
 use mir.Syntax.{w32, w64}
-use lib.IntN.{ℤ}
-use Rattle.ints.proofs.Machine.{tested₁, tested₂}
-use mathlib.Core.List.{List, [], _∷_}
-use lib.ListN.{length}
-use Rattle.ledger.specs.Refusals.{firstToFail, badAskTime, badAsk, check}
-use Rattle.engine.specs.Index.{clockChecks, addChecks, reportChecks, dropChecks, recordsAfterStep}
+use Rattle.ledger.specs.declared.Answer.the-variants.{Accepted, BadTime}
+use Rattle.ledger.specs.Refusals.{badStepTime, badAskTime, badAsk, badReport, badId}
 use Rattle.store.specs.Records.{nowOf, recordsOf}
-use Rattle.store.specs.Changes.{removed}
-use Rattle.ledger.specs.declared.Answer.the-variants.{Accepted, BadTime, BadNumber}
+use Rattle.store.proofs.RecordLaws.{held-records}
+use Rattle.ints.proofs.Machine.{tested₁}
+use Rattle.engine.proofs.CheckLaws.{fails, passes, accepts, store-words-of}
 use Rattle.engine.proofs.checks.clock_answer.Statement.{statement}
 use Rattle.engine.proofs.checks.clock_answer.Tie as tie
 
-lent-answer-requires : tie.Need-lent-answer-requires
-lent-answer-requires c κs = search needs
-
-is-accepted-requires : tie.Need-is-accepted-requires
-is-accepted-requires c κs = search needs
+bad-step-time-requires : tie.Need-bad-step-time-requires
+bad-step-time-requires c κs = omega (arith, store-words-of (c .args .store .now) (c .pre))
 
 returns : tie.Need-returns
-returns c =
-    let l = c .before .before in
-    let a = l .before .args in
-    lent-refused (a .store .now) (a .table .now) (l .lent-answer .result) (l .lent-answer .ensures) _ _
-    (sym (c .before .is-accepted .ensures) ∙ not-true (c .before .is-accepted .result) (c .if1 .taken))
+returns c = fails _ BadTime _ _ (sym (tested₁ w32 (badStepTime (nowOf (c .before .before .args .store .now))) (c .before .bad-step-time .result) (c .before .before .args .t) (c .before .bad-step-time .ensures) (search needs)) ∙ c .if1 .taken)
 
-sound-clock-answer-requires : tie.Need-sound-clock-answer-requires
-sound-clock-answer-requires c κs =
-    let l = c .before .before in
-    let a = l .before .args in
-    sound-is-store (a .store .now) (a .table .now)
-    (lent-sound (a .store .now) (a .table .now) (l .lent-answer .result) (l .lent-answer .ensures)
-    (sym (c .before .is-accepted .ensures) ∙ not-false (c .before .is-accepted .result) (c .if1 .left)))
+held-of-requires : tie.Need-held-of-requires
+held-of-requires c κs = omega (arith, store-words-of (c .before .before .args .store .now) (c .before .before .pre))
 
 returns-2 : tie.Need-returns-2
 returns-2 c =
     let k = c .before in
-    let l = k .before .before in
-    let a = l .before .args in
-    lent-passed (a .store .now) (a .table .now) (l .lent-answer .result) (l .lent-answer .ensures) _ _ (c .sound-clock-answer .result)
-    (sym (k .before .is-accepted .ensures) ∙ not-false (k .before .is-accepted .result) (k .if1 .left))
-    (tested₁ w32 (λ (t : ℤ). firstToFail (clockChecks (a .store .now) t) (Accepted (length (recordsOf (a .store .now))))) (c .sound-clock-answer .result) (a .t) (c .sound-clock-answer .ensures) (search needs))
+    let a = k .before .before .args in
+    passes _ BadTime _ _ _ (sym (tested₁ w32 (badStepTime (nowOf (k .before .before .args .store .now))) (k .before .bad-step-time .result) (a .t) (k .before .bad-step-time .ensures) (search needs)) ∙ k .if1 .left)
+    (accepts _ _ (ap Accepted (c .held-of .ensures ∙ sym (held-records (a .store .now)))))
 
 pub clock-answer-spec : {M : Type 1} → statement M
-clock-answer-spec = tie.close (tie.spec lent-answer-requires is-accepted-requires returns sound-clock-answer-requires returns-2)
+clock-answer-spec = tie.close (tie.spec bad-step-time-requires returns held-of-requires returns-2)

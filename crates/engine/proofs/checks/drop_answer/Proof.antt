@@ -1,51 +1,87 @@
--- `engine::checks::drop_answer` meets its contract: the lent words first, then the numbers.
+-- `engine::checks::drop_answer` meets its contract: each check in its turn; one float fewer is left.
 -- Assumes nothing.
 use mathlib.Core.Path.{_≡_, refl, sym, ap, _∙_}
 use borrow.Author.Needs.{needs}
 use borrow.Author.Tests.{not-true, not-false}
-use Rattle.engine.proofs.CheckLaws.{lent-refused, lent-sound, lent-passed, sound-is-store}
+use native.Mathlib.Omega.{arith}
 use mir.Syntax.{w32, w64}
+use mathlib.Core.Bool.{Bool, true, not}
 use lib.IntN.{ℤ}
-use Rattle.ints.proofs.Machine.{tested₁, tested₂}
-use mathlib.Core.List.{List, [], _∷_}
 use lib.ListN.{length}
-use Rattle.ledger.specs.Refusals.{firstToFail, badAskTime, badAsk, check}
-use Rattle.engine.specs.Index.{clockChecks, addChecks, reportChecks, dropChecks, recordsAfterStep}
+use Prim.Native.Nat.{ℕ, suc, _-_}
+use Rattle.ledger.specs.declared.Answer.the-variants.{Accepted, BadTime, BadNumber, NotHeld}
+use Rattle.grid.specs.Reports.{isId}
+use Rattle.ledger.specs.Refusals.{badStepTime}
 use Rattle.store.specs.Records.{nowOf, recordsOf}
+use Rattle.store.specs.Order.{hasId}
 use Rattle.store.specs.Changes.{removed}
-use Rattle.ledger.specs.declared.Answer.the-variants.{Accepted, BadTime, BadNumber}
+use Rattle.store.proofs.RecordLaws.{held-records}
+use Rattle.engine.specs.Index.{recordsAfterStep}
+use Rattle.ints.proofs.Machine.{tested₁}
+use Rattle.engine.proofs.CheckLaws.{fails, passes, accepts, store-words-of, drop-count}
 use Rattle.engine.proofs.checks.drop_answer.Statement.{statement}
 use Rattle.engine.proofs.checks.drop_answer.Tie as tie
 
-lent-answer-requires : tie.Need-lent-answer-requires
-lent-answer-requires c κs = search needs
+bad-step-time-requires : tie.Need-bad-step-time-requires
+bad-step-time-requires c κs = omega (arith, store-words-of (c .args .store .now) (c .pre))
 
-is-accepted-requires : tie.Need-is-accepted-requires
-is-accepted-requires c κs = search needs
+time-is : (c : tie.After-bad-step-time) → badStepTime (nowOf (c .before .args .store .now)) (c .before .args .t) ≡ c .bad-step-time .result
+time-is c = sym (tested₁ w32 (badStepTime (nowOf (c .before .args .store .now))) (c .bad-step-time .result) (c .before .args .t) (c .bad-step-time .ensures) (search needs))
+
+id-is : (c : tie.After-is-id) → isId (c .before .before .before .args .id) ≡ c .is-id .result
+id-is c = sym (tested₁ w32 isId (c .is-id .result) (c .before .before .before .args .id) (c .is-id .ensures) (search needs))
+
+held-is : (c : tie.After-has-id) → hasId (c .before .before .before .before .before .args .id) (recordsOf (c .before .before .before .before .before .args .store .now)) ≡ c .has-id .result
+held-is c =
+    let a = c .before .before .before .before .before .args in
+    sym (tested₁ w32 (λ (id : ℤ). hasId id (recordsOf (a .store .now))) (c .has-id .result) (a .id) (c .has-id .ensures) (search needs))
 
 returns : tie.Need-returns
-returns c =
-    let l = c .before .before in
-    let a = l .before .args in
-    lent-refused (a .store .now) (a .table .now) (l .lent-answer .result) (l .lent-answer .ensures) _ _
-    (sym (c .before .is-accepted .ensures) ∙ not-true (c .before .is-accepted .result) (c .if1 .taken))
+returns c = fails _ BadTime _ _ (time-is (c .before) ∙ c .if1 .taken)
 
-sound-drop-answer-requires : tie.Need-sound-drop-answer-requires
-sound-drop-answer-requires c κs =
-    let l = c .before .before in
-    let a = l .before .args in
-    sound-is-store (a .store .now) (a .table .now)
-    (lent-sound (a .store .now) (a .table .now) (l .lent-answer .result) (l .lent-answer .ensures)
-    (sym (c .before .is-accepted .ensures) ∙ not-false (c .before .is-accepted .result) (c .if1 .left)))
+is-id-requires : tie.Need-is-id-requires
+is-id-requires c κs = search needs
 
 returns-2 : tie.Need-returns-2
 returns-2 c =
-    let k = c .before in
-    let l = k .before .before in
-    let a = l .before .args in
-    lent-passed (a .store .now) (a .table .now) (l .lent-answer .result) (l .lent-answer .ensures) _ _ (c .sound-drop-answer .result)
-    (sym (k .before .is-accepted .ensures) ∙ not-false (k .before .is-accepted .result) (k .if1 .left))
-    (tested₂ w32 (λ (i t : ℤ). firstToFail (dropChecks (a .store .now) i t) (Accepted (length (removed i (recordsAfterStep (a .store .now) t))))) (c .sound-drop-answer .result) (a .id) (a .t) (c .sound-drop-answer .ensures) (search needs) (search needs))
+    let b = c .before .before in
+    passes _ BadTime _ _ _ (time-is (b .before) ∙ b .if1 .left) (fails _ BadNumber _ _ (ap not (id-is (c .before)) ∙ c .if2 .taken))
+
+has-id-requires : tie.Need-has-id-requires
+has-id-requires c κs = search needs
+
+returns-3 : tie.Need-returns-3
+returns-3 c =
+    let h = c .before in
+    let d = h .before in
+    let b = d .before .before in
+    passes _ BadTime _ _ _ (time-is (b .before) ∙ b .if1 .left)
+    (passes _ BadNumber _ _ _ (ap not (id-is (d .before)) ∙ d .if2 .left)
+    (fails _ NotHeld _ _ (ap not (held-is h) ∙ c .if3 .taken)))
+
+held-of-requires : tie.Need-held-of-requires
+held-of-requires c κs = let a = c .before .before .before .before .before .before in omega (arith, store-words-of (a .args .store .now) (a .pre))
+
+left : (c : tie.After-held-of) → suc (length (removed (c .before .before .before .before .before .before .before .args .id) (recordsAfterStep (c .before .before .before .before .before .before .before .args .store .now) (c .before .before .before .before .before .before .before .args .t)))) ≡ c .held-of .result
+left c =
+    let a = c .before .before .before .before .before .before .before .args in
+    drop-count (a .store .now) (a .id) (a .t) (held-is (c .before .before) ∙ not-false (c .before .before .has-id .result) (c .before .if3 .left))
+    ∙ (held-records (a .store .now) ∙ sym (c .held-of .ensures))
+
+one-fewer : (n m : ℕ) → suc n ≡ m → m - 1 ≡ n
+one-fewer n m e = omega arith
+
+sub-t8 : tie.Need-sub-t8
+sub-t8 c = let e = left c in omega arith
+
+returns-4 : tie.Need-returns-4
+returns-4 c =
+    let h = c .before .before in
+    let d = h .before in
+    let b = d .before .before in
+    passes _ BadTime _ _ _ (time-is (b .before) ∙ b .if1 .left)
+    (passes _ BadNumber _ _ _ (ap not (id-is (d .before)) ∙ d .if2 .left)
+    (passes _ NotHeld _ _ _ (ap not (held-is h) ∙ c .before .if3 .left) (accepts _ _ (ap Accepted (one-fewer _ _ (left c))))))
 
 pub drop-answer-spec : {M : Type 1} → statement M
-drop-answer-spec = tie.close (tie.spec lent-answer-requires is-accepted-requires returns sound-drop-answer-requires returns-2)
+drop-answer-spec = tie.close (tie.spec bad-step-time-requires returns is-id-requires returns-2 has-id-requires returns-3 held-of-requires sub-t8 returns-4)

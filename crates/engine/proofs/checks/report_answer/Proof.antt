@@ -1,41 +1,71 @@
--- `engine::checks::report_answer` meets its contract: the lent words first, then the numbers.
+-- `engine::checks::report_answer` meets its contract: each check in its turn; the floats held are the records.
 -- Assumes nothing.
 use mathlib.Core.Path.{_≡_, refl, sym, ap, _∙_}
 use borrow.Author.Needs.{needs}
-use borrow.Author.Tests.{not-true, not-false}
-use Rattle.engine.proofs.CheckLaws.{lent-refused, lent-sound, lent-passed, sound-is-store}
+use native.Mathlib.Omega.{arith}
+use mir.Syntax.{w32, w64}
+use mathlib.Core.Bool.{Bool, true, false, not}
+use lib.IntN.{ℤ}
+use lib.ListN.{length}
+use native.Mathlib.Numerals.{add-one}
+use borrow.Author.Tests.{le-leb, lt-leb}
+use Rattle.ledger.specs.declared.Answer.the-variants.{Accepted, BadTime, BadNumber, NotHeld}
+use Rattle.grid.specs.Units.{capacity}
+use Rattle.ledger.specs.Refusals.{badStepTime}
+use Rattle.store.specs.Records.{nowOf, recordsOf}
+use Rattle.store.specs.Order.{hasId}
+use Rattle.store.proofs.RecordLaws.{held-records}
+use Rattle.ints.proofs.Machine.{tested₁}
+use Rattle.engine.proofs.CheckLaws.{fails, passes, accepts, store-words-of}
 use Rattle.engine.proofs.checks.report_answer.Statement.{statement}
 use Rattle.engine.proofs.checks.report_answer.Tie as tie
 
-lent-answer-requires : tie.Need-lent-answer-requires
-lent-answer-requires c κs = search needs
+bad-step-time-requires : tie.Need-bad-step-time-requires
+bad-step-time-requires c κs = omega (arith, store-words-of (c .before .args .store .now) (c .before .pre))
 
-is-accepted-requires : tie.Need-is-accepted-requires
-is-accepted-requires c κs = search needs
+time-is : (c : tie.After-bad-step-time) → badStepTime (nowOf (c .before .before .args .store .now)) (c .before .before .args .r .t) ≡ c .bad-step-time .result
+time-is c = sym (tested₁ w32 (badStepTime (nowOf (c .before .before .args .store .now))) (c .bad-step-time .result) (c .before .before .args .r .t) (c .bad-step-time .ensures) (search needs))
+
+held-is : (c : tie.After-has-id) → hasId (c .before .before .before .before .before .before .before .args .r .id) (recordsOf (c .before .before .before .before .before .before .before .args .store .now)) ≡ c .has-id .result
+held-is c =
+    let a = c .before .before .before .before .before .before .before .args in
+    sym (tested₁ w32 (λ (id : ℤ). hasId id (recordsOf (a .store .now))) (c .has-id .result) (a .r .id) (c .has-id .ensures) (search needs))
 
 returns : tie.Need-returns
-returns c =
-    let l = c .before .before in
-    let a = l .before .args in
-    lent-refused (a .store .now) (a .table .now) (l .lent-answer .result) (l .lent-answer .ensures) _ _
-    (sym (c .before .is-accepted .ensures) ∙ not-true (c .before .is-accepted .result) (c .if1 .taken))
+returns c = fails _ BadTime _ _ (time-is (c .before) ∙ c .if1 .taken)
 
-sound-report-answer-requires : tie.Need-sound-report-answer-requires
-sound-report-answer-requires c κs =
-    let l = c .before .before in
-    let a = l .before .args in
-    sound-is-store (a .store .now) (a .table .now)
-    (lent-sound (a .store .now) (a .table .now) (l .lent-answer .result) (l .lent-answer .ensures)
-    (sym (c .before .is-accepted .ensures) ∙ not-false (c .before .is-accepted .result) (c .if1 .left)))
+in-range-requires : tie.Need-in-range-requires
+in-range-requires c κs = search needs
 
 returns-2 : tie.Need-returns-2
 returns-2 c =
-    let k = c .before in
-    let l = k .before .before in
-    let a = l .before .args in
-    lent-passed (a .store .now) (a .table .now) (l .lent-answer .result) (l .lent-answer .ensures) _ _ (c .sound-report-answer .result)
-    (sym (k .before .is-accepted .ensures) ∙ not-false (k .before .is-accepted .result) (k .if1 .left))
-    (c .sound-report-answer .ensures)
+    let b = c .before .before in
+    passes _ BadTime _ _ _ (time-is (b .before) ∙ b .if1 .left) (fails _ BadNumber _ _ (ap not (sym (c .before .in-range .ensures)) ∙ c .if2 .taken))
+
+has-id-requires : tie.Need-has-id-requires
+has-id-requires c κs = search needs
+
+returns-3 : tie.Need-returns-3
+returns-3 c =
+    let h = c .before in
+    let d = h .before .before in
+    let b = d .before .before in
+    passes _ BadTime _ _ _ (time-is (b .before) ∙ b .if1 .left)
+    (passes _ BadNumber _ _ _ (ap not (sym (d .before .in-range .ensures)) ∙ d .if2 .left)
+    (fails _ NotHeld _ _ (ap not (held-is h) ∙ c .if3 .taken)))
+
+held-of-requires : tie.Need-held-of-requires
+held-of-requires c κs = let a = c .before .before .before .before .before .before .before .before in omega (arith, store-words-of (a .args .store .now) (a .pre))
+
+returns-4 : tie.Need-returns-4
+returns-4 c =
+    let h = c .before .before in
+    let d = h .before .before in
+    let b = d .before .before in
+    passes _ BadTime _ _ _ (time-is (b .before) ∙ b .if1 .left)
+    (passes _ BadNumber _ _ _ (ap not (sym (d .before .in-range .ensures)) ∙ d .if2 .left)
+    (passes _ NotHeld _ _ _ (ap not (held-is h) ∙ c .before .if3 .left)
+    (accepts _ _ (ap Accepted (c .held-of .ensures ∙ sym (held-records (h .before .before .before .before .before .before .before .args .store .now)))))))
 
 pub report-answer-spec : {M : Type 1} → statement M
-report-answer-spec = tie.close (tie.spec lent-answer-requires is-accepted-requires returns sound-report-answer-requires returns-2)
+report-answer-spec = tie.close (tie.spec bad-step-time-requires returns in-range-requires returns-2 has-id-requires returns-3 held-of-requires returns-4)
