@@ -5,3 +5,4 @@ pub mod CheckLaws
 pub mod StepLaws
 pub mod AskingLaws
 pub mod CallLaws
+pub mod SmallAnswers
