@@ -1,0 +1,27 @@
+-- `replay::begin` meets its contract.
+-- Assumes nothing.
+use mir.Syntax.{w32}
+use lib.IntN.{pos}
+use Rattle.ints.proofs.Machine.{held}
+use Rattle.replay.proofs.ChunkLaws.{begun-at-point}
+use borrow.Author.Needs.{needs}
+use Rattle.replay.proofs.begin.Statement.{statement}
+use Rattle.replay.proofs.begin.Tie as tie
+
+open-requires : tie.Need-open-requires
+open-requires c κs = search needs
+
+same-length : tie.Need-same-length
+same-length c = search needs
+
+same-length-2 : tie.Need-same-length-2
+same-length-2 c = search needs
+
+returns : tie.Need-returns
+returns c =
+    let k = c .before .before in
+    let a = c .before .before .before .before .before in
+    begun-at-point (a .args .store .now) (a .args .table .now) (a .pre .0) (a .pre .1) (k .«open» .last .0) (k .«open» .last .1 .0) (k .«open» .result) (k .«open» .ensures)
+
+pub begin-spec : {M : Type 1} → statement M
+begin-spec = tie.close (tie.spec open-requires same-length same-length-2 returns)

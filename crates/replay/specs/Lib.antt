@@ -1,0 +1,3 @@
+pub mod Replay
+pub mod Session
+pub mod Claims
