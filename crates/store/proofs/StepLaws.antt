@@ -1,31 +1,26 @@
--- The laws of a step of the current phase: the records that do not live on taken out one by one, and put in again one by one.
+-- The laws of a step of the current phase: the records that do not live on taken out in one pass, and put in again one by one.
 -- Assumes nothing.
 use mathlib.Core.Path.{_≡_, refl, sym, ap, _∙_}
-use mathlib.Core.Bool.{Bool, true, false, cond, _&&_}
+use mathlib.Core.Bool.{Bool, true, false, cond}
 use mathlib.Core.List.{List, [], _∷_, _++_, append-assoc, append-nil}
-use Prim.Native.Nat.{ℕ, zero, suc, _+_, _-_, _*_, _≤_, _<_, _^_}
-use native.Mathlib.Nat.{add-zero}
+use Prim.Native.Nat.{ℕ, suc, _+_, _-_, _*_, _≤_, _<_}
 use native.Mathlib.Omega.{arith}
 use lib.IntN.{ℤ, pos}
-use lib.Signed.{mag}
-use lib.ListN.{length, getD, set, take, drop, length-append, length-take, length-drop, length-set, drop-of-length-le}
+use lib.ListN.{length, set, take, drop, replicate, length-append, length-take, length-drop, length-set, replicate-append-replicate}
 use lib.Seq.{drop-drop, take-at, drop-at, take-add, take-all, length-take-le}
-use mir.Syntax.{w32}
-use mir.Val.{hbits}
-use Rattle.ints.proofs.Machine.{back, held}
 use Rattle.ints.proofs.Truth.{and-true, and-left, and-right}
 use Rattle.grid.specs.Units.{capacity}
 use Rattle.rows.specs.Table.{tableWords, withRow, withSpeed}
-use Rattle.store.specs.Records.{recordWords, storeWords, recordFrom, nowOf, heldOf, readRecords, recordsOf, wordsOf, wordsOfAll, storeOf}
+use Rattle.store.specs.Records.{recordWords, storeWords, recordFrom, nowOf, heldOf, readRecords, recordsOf, wordsOf, wordsOfAll, header, storeOf}
 use Rattle.store.specs.Order.{slotOfKey, numberOfKey, precedes}
 use Rattle.store.specs.Soundness.{isRanged, allRanged, IsStore}
 use Rattle.store.specs.Changes.{inserted, insertedAll, placedIn, livesOn, kept, replaced, steppedRecords, withSpeeds}
-use Rattle.store.specs.Walks.{HasWords, Taken, PlaceAsked}
+use Rattle.store.specs.Walks.{HasWords, KeptFirst, Taken, PlaceAsked}
 use Rattle.store.specs.declared.Record.{Record}
 use Rattle.store.proofs.RecordLaws.{words-length, read-back, now-of-store, records-of-store, read-length, held-records, written-read}
 use Rattle.store.proofs.SoundLawsRanges.{ranged-parts, parts-ranged}
 use Rattle.store.proofs.SoundLawsKeys.{key-in-below}
-use Rattle.store.proofs.ChangeLaws.{left-at, words-append, has-words}
+use Rattle.store.proofs.ChangeLaws.{record-at, left-at, words-append, store-room}
 use Rattle.store.proofs.ReadingLaws.{read-later, rest-at}
 
 -- the records from record i on
@@ -85,140 +80,223 @@ read-next m w w′ a h e =
     let k : m + 1 ≡ length (rs ++ (a ∷ [])) = rw (length-append, n) in
     ap (readRecords (m + 1)) all ∙ read-back (m + 1) (rs ++ (a ∷ [])) rest k
 
--- ---- records taken out
+-- ---- the gaps closed in one pass
 
-pub record Take (s₀ : List ℤ) (c later : ℕ) (s dead : List ℤ) (n m i : ℕ) : Type 0 where
-  pub has : HasWords s
-  pub same-now : nowOf s ≡ nowOf s₀
-  pub held : n ≡ heldOf s
+kept-append : (c later : ℕ) (xs ys : List Record) → kept c later (xs ++ ys) ≡ kept c later xs ++ kept c later ys
+unfolding kept
+kept-append c later [] ys = refl
+kept-append c later (x ∷ xs) ys = go (livesOn c later x) (kept-append c later xs ys)
+  where
+    go : (b : Bool) → kept c later (xs ++ ys) ≡ kept c later xs ++ kept c later ys → cond b (x ∷ kept c later (xs ++ ys)) (kept c later (xs ++ ys)) ≡ cond b (x ∷ kept c later xs) (kept c later xs) ++ kept c later ys
+    go true h = ap (λ (l : List Record). x ∷ l) h
+    go false h = h
+
+replaced-append : (c later : ℕ) (xs ys : List Record) → replaced c later (xs ++ ys) ≡ replaced c later xs ++ replaced c later ys
+unfolding replaced
+replaced-append c later [] ys = refl
+replaced-append c later (x ∷ xs) ys = go (livesOn c later x) (replaced-append c later xs ys)
+  where
+    go : (b : Bool) → replaced c later (xs ++ ys) ≡ replaced c later xs ++ replaced c later ys → cond b (replaced c later (xs ++ ys)) (placedIn later (x .report) ∷ replaced c later (xs ++ ys)) ≡ cond b (replaced c later xs) (placedIn later (x .report) ∷ replaced c later xs) ++ replaced c later ys
+    go true h = h
+    go false h = ap (λ (l : List Record). placedIn later (x .report) ∷ l) h
+
+-- after i records, k of them kept: these stand first, and from record i on the words are those at entry
+pub record Pass (s₀ : List ℤ) (c later n : ℕ) (s dead : List ℤ) (k i : ℕ) : Type 0 where
+  pub held : n ≡ heldOf s₀
+  pub few : n ≤ capacity
+  pub long : length s ≡ storeWords
   pub inside : i ≤ n
-  pub total : m + n ≡ length (recordsOf s₀)
-  pub room : m + n ≤ capacity
-  pub long : length dead ≡ 7168
-  pub kept-are : kept c later (recordsOf s₀) ≡ take i (recordsOf s) ++ kept c later (drop i (recordsOf s))
-  pub dead-are : replaced c later (recordsOf s₀) ≡ readRecords m dead ++ replaced c later (drop i (recordsOf s))
-  pub ranged : allRanged (drop i (recordsOf s)) ≡ true
-  pub dead-ranged : allRanged (readRecords m dead) ≡ true
+  pub closer : k ≤ i
+  pub count : length (kept c later (take i (recordsOf s₀))) ≡ k
+  pub first : take (recordWords * k + recordWords) s ≡ take recordWords s₀ ++ wordsOfAll (kept c later (take i (recordsOf s₀)))
+  pub rest : drop (recordWords * i + recordWords) s ≡ drop (recordWords * i + recordWords) s₀
+  pub ranged : allRanged (drop i (recordsOf s₀)) ≡ true
+  pub long-dead : length dead ≡ 7168
+  pub dead-are : readRecords (i - k) dead ≡ replaced c later (take i (recordsOf s₀))
+  pub dead-ranged : allRanged (readRecords (i - k) dead) ≡ true
 
-pub take-start : (s dead : List ℤ) (c later n : ℕ) → IsStore s → n ≡ heldOf s → length dead ≡ 7168 → Take s c later s dead n 0 0
-unfolding readRecords allRanged
-take-start s dead c later n q e l =
-    let k = held-records s in
-    let f = q .few in
+pub pass-start : (s dead : List ℤ) (c later n : ℕ) → IsStore s → n ≡ heldOf s → length dead ≡ 7168 → Pass s c later n s dead 0 0
+unfolding readRecords allRanged kept replaced wordsOfAll
+pass-start s dead c later n q e l =
+    let room = store-room s q in
+    let f = room .few in
     record {
-      has = has-words s q;
-      same-now = refl;
       held = e;
+      few = omega arith;
+      long = room .long;
       inside = omega arith;
-      total = omega arith;
-      room = omega arith;
-      long = l;
-      kept-are = refl;
-      dead-are = refl;
+      closer = omega arith;
+      count = refl;
+      first = sym (append-nil (take recordWords s));
+      rest = refl;
       ranged = q .ranged;
+      long-dead = l;
+      dead-are = refl;
       dead-ranged = refl;
     }
 
-module _ (s₀ : List ℤ) (c later : ℕ) (s dead : List ℤ) (n m i : ℕ) (p : Take s₀ c later s dead n m i) (h : i < n) (r : Record) (er : r ≡ recordFrom s (recordWords * i + recordWords)) where
-  here : drop i (recordsOf s) ≡ r ∷ drop (i + 1) (recordsOf s)
+module _ (s₀ : List ℤ) (c later n : ℕ) (s dead : List ℤ) (k i : ℕ) (p : Pass s₀ c later n s dead k i) (h : i < n) (r : Record) (er : r ≡ recordFrom s (recordWords * i + recordWords)) where
+  at-entry : r ≡ recordFrom s₀ (recordWords * i + recordWords)
+  at-entry =
+      let j = recordWords * i + recordWords in
+      er ∙ sym (record-at j s) ∙ ap (λ (l : List ℤ). recordFrom l 0) (p .rest) ∙ record-at j s₀
+
+  here : drop i (recordsOf s₀) ≡ r ∷ drop (i + 1) (recordsOf s₀)
   here =
       let e = p .held in
-      drop-record s i (omega arith) ∙ ap (λ (a : Record). a ∷ drop (i + 1) (recordsOf s)) (sym er)
+      drop-record s₀ i (omega arith) ∙ ap (λ (a : Record). a ∷ drop (i + 1) (recordsOf s₀)) (sym at-entry)
 
-  pub taken-ranged : isRanged r ≡ true
+  one-more : take (i + 1) (recordsOf s₀) ≡ take i (recordsOf s₀) ++ (r ∷ [])
+  one-more = take-add i 1 (recordsOf s₀) ∙ ap (λ (l : List Record). take i (recordsOf s₀) ++ take 1 l) here
+
+  pub pass-ranged : isRanged r ≡ true
   unfolding allRanged
-  taken-ranged =
-      let x : allRanged (r ∷ drop (i + 1) (recordsOf s)) ≡ true = rw here at (p .ranged) in
-      and-left (isRanged r) (allRanged (drop (i + 1) (recordsOf s))) x
+  pass-ranged =
+      let x : allRanged (r ∷ drop (i + 1) (recordsOf s₀)) ≡ true = rw here at (p .ranged) in
+      and-left (isRanged r) (allRanged (drop (i + 1) (recordsOf s₀))) x
 
-  later-ranged : allRanged (drop (i + 1) (recordsOf s)) ≡ true
+  later-ranged : allRanged (drop (i + 1) (recordsOf s₀)) ≡ true
   unfolding allRanged
   later-ranged =
-      let x : allRanged (r ∷ drop (i + 1) (recordsOf s)) ≡ true = rw here at (p .ranged) in
-      and-right (isRanged r) (allRanged (drop (i + 1) (recordsOf s))) x
+      let x : allRanged (r ∷ drop (i + 1) (recordsOf s₀)) ≡ true = rw here at (p .ranged) in
+      and-right (isRanged r) (allRanged (drop (i + 1) (recordsOf s₀))) x
+
+  -- words that are those at entry from record i on are so from the next record on
+  later-words : (w : List ℤ) → drop (recordWords * i + recordWords) w ≡ drop (recordWords * i + recordWords) s₀ → drop (recordWords * (i + 1) + recordWords) w ≡ drop (recordWords * (i + 1) + recordWords) s₀
+  later-words w e =
+      let j = recordWords * i + recordWords in
+      let a : recordWords * (i + 1) + recordWords ≡ j + recordWords = omega arith in
+      ap (λ (x : ℕ). drop x w) a ∙ sym (drop-drop recordWords j w) ∙ ap (drop recordWords) e ∙ drop-drop recordWords j s₀ ∙ ap (λ (x : ℕ). drop x s₀) (sym a)
 
   module _ (x : Bool) (ex : x ≡ livesOn c later r) where
-    pub take-live : x ≡ true → Take s₀ c later s dead n m (i + 1)
-    unfolding kept replaced
-    take-live t =
-        let rs = recordsOf s in
-        let rest = drop (i + 1) rs in
-        let lives : livesOn c later r ≡ true = sym ex ∙ t in
-        let k : kept c later (drop i rs) ≡ r ∷ kept c later rest = ap (kept c later) here ∙ rw lives in
-        let d : replaced c later (drop i rs) ≡ replaced c later rest = ap (replaced c later) here ∙ rw lives in
-        let more : take (i + 1) rs ≡ take i rs ++ (r ∷ []) = take-add i 1 rs ∙ ap (λ (l : List Record). take i rs ++ take 1 l) here in
-        record {
-          has = p .has;
-          same-now = p .same-now;
-          held = p .held;
-          inside = omega arith;
-          total = p .total;
-          room = p .room;
-          long = p .long;
-          kept-are = p .kept-are ∙ ap (λ (l : List Record). take i rs ++ l) k ∙ sym (ap (λ (l : List Record). l ++ kept c later rest) more ∙ append-assoc (take i rs) (r ∷ []) (kept c later rest));
-          dead-are = p .dead-are ∙ ap (λ (l : List Record). readRecords m dead ++ l) d;
-          ranged = later-ranged;
-          dead-ranged = p .dead-ranged;
-        }
-
-    pub take-dead : x ≡ false → (a : Record) → a ≡ placedIn later (r .report) → (dead′ : List ℤ) → dead′ ≡ take (recordWords * m) dead ++ (wordsOf a ++ drop (recordWords * m + recordWords) dead) → (s′ : List ℤ) → s′ ≡ storeOf (nowOf s) (take i (recordsOf s) ++ drop (i + 1) (recordsOf s)) → Take s₀ c later s′ dead′ (n - 1) (m + 1) i
-    unfolding kept replaced allRanged
-    take-dead t a ea dead′ ed s′ es =
-        let rs = recordsOf s in
-        let rest = drop (i + 1) rs in
-        let left = take i rs ++ rest in
-        let count = held-records s in
-        let e0 = p .held in
-        let r0 = p .room in
+    pub pass-live : x ≡ true → (s′ : List ℤ) → s′ ≡ take (recordWords * k + recordWords) s ++ (wordsOf r ++ drop (recordWords * k + recordWords + recordWords) s) → Pass s₀ c later n s′ dead (k + 1) (i + 1)
+    unfolding kept replaced wordsOfAll
+    pass-live t s′ es =
+        let rs = recordsOf s₀ in
+        let a = recordWords * k + recordWords in
         let l0 = p .long in
-        let dies : livesOn c later r ≡ false = sym ex ∙ t in
-        let k : kept c later (drop i rs) ≡ kept c later rest = ap (kept c later) here ∙ rw dies in
-        let d : replaced c later (drop i rs) ≡ a ∷ replaced c later rest =
-        ap (replaced c later) here ∙ (rw dies) ∙ ap (λ (b : Record). b ∷ replaced c later rest) (sym ea) in
-        let li : length (take i rs) ≡ i = length-take-le i rs (omega arith) in
-        let ll : length left ≡ length rs - 1 = simp (length-append, length-take, length-drop) (omega arith) in
-        let now′ = now-is (nowOf s) left s′ es in
-        let rs′ = records-are (nowOf s) left s′ es in
-        let count′ = held-records s′ in
-        let lr : length (recordsOf s′) ≡ length left = ap length rs′ in
-        let ti : take i (recordsOf s′) ≡ take i rs = ap (take i) rs′ ∙ take-at (take i rs) rest i li in
-        let di : drop i (recordsOf s′) ≡ rest = ap (drop i) rs′ ∙ drop-at (take i rs) rest i li in
-        let next : readRecords (m + 1) dead′ ≡ readRecords m dead ++ (a ∷ []) = read-next m dead dead′ a (omega arith) ed in
-        let ra : isRanged a ≡ true = rw ea (placed-ranged later r taken-ranged) in
-        let rd : allRanged (readRecords m dead ++ (a ∷ [])) ≡ true = ranged-append (readRecords m dead) (a ∷ []) (p .dead-ranged) (and-true (isRanged a) true ra refl) in
-        let ld : length dead′ ≡ length dead = ap length ed ∙ simp (length-append, length-take, length-drop) (omega arith) in
-        let tt0 = p .total in
+        let f0 = p .few in
+        let i0 = p .inside in
+        let k0 = p .closer in
+        let c0 = p .count in
+        let lives : livesOn c later r ≡ true = sym ex ∙ t in
+        let alone : kept c later (r ∷ []) ≡ r ∷ [] = rw lives in
+        let none : replaced c later (r ∷ []) ≡ [] = rw lives in
+        let more : kept c later (take (i + 1) rs) ≡ kept c later (take i rs) ++ (r ∷ []) =
+        ap (kept c later) one-more ∙ kept-append c later (take i rs) (r ∷ []) ∙ ap (λ (l : List Record). kept c later (take i rs) ++ l) alone in
+        let same : replaced c later (take (i + 1) rs) ≡ replaced c later (take i rs) =
+        ap (replaced c later) one-more ∙ replaced-append c later (take i rs) (r ∷ []) ∙ ap (λ (l : List Record). replaced c later (take i rs) ++ l) none ∙ append-nil (replaced c later (take i rs)) in
+        let la : length (take a s) ≡ a = length-take-le a s (omega arith) in
+        let ea : recordWords * (k + 1) + recordWords ≡ a + recordWords = omega arith in
+        let eb : s′ ≡ (take a s ++ wordsOf r) ++ drop (a + recordWords) s = es ∙ sym (append-assoc (take a s) (wordsOf r) (drop (a + recordWords) s)) in
+        let lb : length (take a s ++ wordsOf r) ≡ a + recordWords = simp (length-append, la) in
+        let ec : drop (a + recordWords) s′ ≡ drop (a + recordWords) s = ap (drop (a + recordWords)) eb ∙ drop-at (take a s ++ wordsOf r) (drop (a + recordWords) s) (a + recordWords) lb in
+        let g = recordWords * (i - k) in
+        let ed : recordWords * (i + 1) + recordWords ≡ a + recordWords + g = omega arith in
+        let later-same : drop (recordWords * (i + 1) + recordWords) s′ ≡ drop (recordWords * (i + 1) + recordWords) s =
+        ap (λ (j : ℕ). drop j s′) ed ∙ sym (drop-drop g (a + recordWords) s′) ∙ ap (drop g) ec ∙ drop-drop g (a + recordWords) s ∙ ap (λ (j : ℕ). drop j s) (sym ed) in
+        let fewer : i + 1 - (k + 1) ≡ i - k = omega arith in
         record {
-          has = words-of (nowOf s) left s′ es (omega arith);
-          same-now = now′ ∙ p .same-now;
-          held = omega arith;
+          held = p .held;
+          few = f0;
+          long = ap length eb ∙ simp (length-append, la, length-drop) (omega arith);
           inside = omega arith;
-          total = omega arith;
-          room = omega arith;
-          long = omega arith;
-          kept-are = p .kept-are ∙ (λ j. sym ti j ++ k j) ∙ ap (λ (l : List Record). take i (recordsOf s′) ++ kept c later l) (sym di);
-          dead-are = p .dead-are ∙ ap (λ (l : List Record). readRecords m dead ++ l) d ∙ sym (ap (λ (l : List Record). l ++ replaced c later rest) next ∙ append-assoc (readRecords m dead) (a ∷ []) (replaced c later rest)) ∙ ap (λ (l : List Record). readRecords (m + 1) dead′ ++ replaced c later l) (sym di);
-          ranged = rw di later-ranged;
-          dead-ranged = rw next rd;
+          closer = omega arith;
+          count = ap length more ∙ simp length-append (omega arith);
+          first = ap (λ (j : ℕ). take j s′) ea ∙ ap (take (a + recordWords)) eb ∙ take-at (take a s ++ wordsOf r) (drop (a + recordWords) s) (a + recordWords) lb ∙ ap (λ (l : List ℤ). l ++ wordsOf r) (p .first) ∙ append-assoc (take recordWords s₀) (wordsOfAll (kept c later (take i rs))) (wordsOf r) ∙ ap (λ (l : List ℤ). take recordWords s₀ ++ l) (sym (ap wordsOfAll more ∙ words-append (kept c later (take i rs)) (r ∷ [])));
+          rest = later-same ∙ later-words s (p .rest);
+          ranged = later-ranged;
+          long-dead = p .long-dead;
+          dead-are = ap (λ (j : ℕ). readRecords j dead) fewer ∙ p .dead-are ∙ sym same;
+          dead-ranged = rw fewer (p .dead-ranged);
         }
 
-pub take-end : (s₀ : List ℤ) (c later : ℕ) (s dead : List ℤ) (n m i : ℕ) → Take s₀ c later s dead n m i → n ≤ i → (s ≡ storeOf (nowOf s₀) (kept c later (recordsOf s₀))) × (Taken c later (recordsOf s₀) m dead)
-unfolding kept replaced
-take-end s₀ c later s dead n m i p h =
-    let rs = recordsOf s in
-    let count = held-records s in
+    pub pass-dead : x ≡ false → (a : Record) → a ≡ placedIn later (r .report) → (dead′ : List ℤ) → dead′ ≡ take (recordWords * (i - k)) dead ++ (wordsOf a ++ drop (recordWords * (i - k) + recordWords) dead) → Pass s₀ c later n s dead′ k (i + 1)
+    unfolding kept replaced allRanged
+    pass-dead t a ea dead′ ed =
+        let rs = recordsOf s₀ in
+        let m = i - k in
+        let f0 = p .few in
+        let i0 = p .inside in
+        let k0 = p .closer in
+        let l0 = p .long-dead in
+        let dies : livesOn c later r ≡ false = sym ex ∙ t in
+        let none : kept c later (r ∷ []) ≡ [] = rw dies in
+        let alone : replaced c later (r ∷ []) ≡ a ∷ [] = (rw dies) ∙ ap (λ (b : Record). b ∷ []) (sym ea) in
+        let same : kept c later (take (i + 1) rs) ≡ kept c later (take i rs) =
+        ap (kept c later) one-more ∙ kept-append c later (take i rs) (r ∷ []) ∙ ap (λ (l : List Record). kept c later (take i rs) ++ l) none ∙ append-nil (kept c later (take i rs)) in
+        let more : replaced c later (take (i + 1) rs) ≡ replaced c later (take i rs) ++ (a ∷ []) =
+        ap (replaced c later) one-more ∙ replaced-append c later (take i rs) (r ∷ []) ∙ ap (λ (l : List Record). replaced c later (take i rs) ++ l) alone in
+        let next : readRecords (m + 1) dead′ ≡ readRecords m dead ++ (a ∷ []) = read-next m dead dead′ a (omega arith) ed in
+        let em : i + 1 - k ≡ m + 1 = omega arith in
+        let ra : isRanged a ≡ true = rw ea (placed-ranged later r pass-ranged) in
+        let rd : allRanged (readRecords m dead ++ (a ∷ [])) ≡ true = ranged-append (readRecords m dead) (a ∷ []) (p .dead-ranged) (and-true (isRanged a) true ra refl) in
+        record {
+          held = p .held;
+          few = f0;
+          long = p .long;
+          inside = omega arith;
+          closer = omega arith;
+          count = ap length same ∙ p .count;
+          first = p .first ∙ ap (λ (l : List Record). take recordWords s₀ ++ wordsOfAll l) (sym same);
+          rest = later-words s (p .rest);
+          ranged = later-ranged;
+          long-dead = ap length ed ∙ simp (length-append, length-take, length-drop) (omega arith);
+          dead-are = ap (λ (j : ℕ). readRecords j dead′) em ∙ next ∙ ap (λ (l : List Record). l ++ (a ∷ [])) (p .dead-are) ∙ sym more;
+          dead-ranged = rw (em, next) rd;
+        }
+
+pub pass-end : (s₀ : List ℤ) (c later n : ℕ) (s dead : List ℤ) (k i : ℕ) → Pass s₀ c later n s dead k i → n ≤ i → (KeptFirst c later s₀ k s) × (Taken c later (recordsOf s₀) (heldOf s₀ - k) dead)
+pass-end s₀ c later n s dead k i p h =
+    let rs = recordsOf s₀ in
+    let count = held-records s₀ in
     let e = p .held in
-    let l = p .long in
-    let r = p .room in
-    let t = p .total in
-    let none : drop i rs ≡ [] = drop-of-length-le rs {i = i} (omega arith) in
+    let f0 = p .few in
+    let l0 = p .long-dead in
+    let i0 = p .inside in
+    let k0 = p .closer in
     let all : take i rs ≡ rs = take-all i rs (omega arith) in
-    let k : kept c later (recordsOf s₀) ≡ rs = p .kept-are ∙ (λ j. all j ++ kept c later (none j)) ∙ append-nil rs in
-    let d : replaced c later (recordsOf s₀) ≡ readRecords m dead = p .dead-are ∙ ap (λ (x : List Record). readRecords m dead ++ replaced c later x) none ∙ append-nil (readRecords m dead) in
-    let lk : length (kept c later (recordsOf s₀)) ≡ length rs = ap length k in (
-      p .has .words ∙ (λ j. storeOf (p .same-now j) (sym k j)),
-      record { dead-are = sym d; inside = omega arith; total = omega arith; ranged = p .dead-ranged },
+    let ei : i ≡ heldOf s₀ = omega arith in
+    let c0 : length (kept c later rs) ≡ k = ap (λ (l : List Record). length (kept c later l)) (sym all) ∙ p .count in (
+      record {
+        count = c0;
+        within = omega arith;
+        first = p .first ∙ ap (λ (l : List Record). take recordWords s₀ ++ wordsOfAll (kept c later l)) all;
+        unused = rw (← ei) (p .rest);
+      },
+      record {
+        dead-are = rw (← ei) (p .dead-are ∙ ap (replaced c later) all);
+        inside = omega arith;
+        total = omega arith;
+        ranged = rw (← ei) (p .dead-ranged);
+      },
     )
+
+-- the words between the kept records and the unused ones zeroed, and the count set
+pub taken-out : (s₀ s ys s′ : List ℤ) (c later n k : ℕ) → IsStore s₀ → n ≡ heldOf s₀ → KeptFirst c later s₀ k s → length s ≡ length s₀ → let a = recordWords * k + recordWords in let e = recordWords * n + recordWords in ys ≡ replicate (length (take (e - a) (drop a s))) (pos 0) → s′ ≡ set (take a s ++ (ys ++ drop (e - a) (drop a s))) 1 (pos k) → s′ ≡ storeOf (nowOf s₀) (kept c later (recordsOf s₀))
+unfolding storeOf
+taken-out s₀ s ys s′ c later n k q en f ls ey es =
+    let now = nowOf s₀ in
+    let rs = recordsOf s₀ in
+    let left = kept c later rs in
+    let room = store-room s₀ q in
+    let lr : length rs ≡ n = room .count ∙ sym en in
+    let few = room .few in
+    let long = room .long in
+    let kn = f .within in
+    let a = recordWords * k + recordWords in
+    let e = recordWords * n + recordWords in
+    let zeros : ℕ → List ℤ = λ j. replicate j (pos 0) in
+    let le : length (header now (length rs) ++ wordsOfAll rs) ≡ e = simp (length-append, words-length) (omega arith) in
+    let end : drop e s₀ ≡ zeros (recordWords * (capacity - length rs)) = ap (drop e) (q .words) ∙ drop-at (header now (length rs) ++ wordsOfAll rs) (zeros (recordWords * (capacity - length rs))) e le in
+    let ea : a + (e - a) ≡ e = omega arith in
+    let dn : drop (e - a) (drop a s) ≡ zeros (recordWords * (capacity - length rs)) = drop-drop (e - a) a s ∙ ap (λ (j : ℕ). drop j s) ea ∙ (rw en (f .unused)) ∙ end in
+    let lg : length (take (e - a) (drop a s)) ≡ e - a = length-take-le (e - a) (drop a s) (simp length-drop (omega arith)) in
+    let both : e - a + recordWords * (capacity - length rs) ≡ recordWords * (capacity - k) = omega arith in
+    let gap : ys ++ drop (e - a) (drop a s) ≡ zeros (recordWords * (capacity - k)) =
+    (λ j. (ey ∙ ap zeros lg) j ++ dn j) ∙ replicate-append-replicate (e - a) (recordWords * (capacity - length rs)) (pos 0) ∙ ap zeros both in
+    let front : take a s ≡ header now (length rs) ++ wordsOfAll left = f .first ∙ ap (λ (l : List ℤ). take recordWords l ++ wordsOfAll left) (q .words) in
+    es ∙ (λ j. set (front j ++ gap j) 1 (pos k)) ∙ ap (λ (j : ℕ). header now j ++ (wordsOfAll left ++ zeros (recordWords * (capacity - j)))) (sym (f .count))
 
 -- ---- records put in
 

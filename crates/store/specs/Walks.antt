@@ -3,7 +3,7 @@
 -- Assumes nothing.
 use mathlib.Core.Path.{_≡_}
 use mathlib.Core.Bool.{Bool, true, cond}
-use mathlib.Core.List.{List, [], _∷_}
+use mathlib.Core.List.{List, [], _∷_, _++_}
 use Prim.Native.Nat.{ℕ, suc, _+_, _-_, _*_, _/_, _≤_, _<_, _^_}
 use lib.IntN.{ℤ, pos, natAbs}
 use lib.Signed.{leZ}
@@ -13,7 +13,7 @@ use Rattle.grid.specs.Units.{cells, capacity}
 use Rattle.grid.specs.Reports.{isListed}
 use Rattle.grid.specs.declared.Rect.{Rect}
 use Rattle.rows.specs.Table.{tableWords}
-use Rattle.store.specs.Records.{recordWords, nowOf, readRecords, recordsOf, storeOf}
+use Rattle.store.specs.Records.{recordWords, nowOf, heldOf, readRecords, recordsOf, wordsOfAll, storeOf}
 use Rattle.store.specs.Order.{precedes}
 use Rattle.store.specs.Soundness.{allRanged, IsStore}
 use Rattle.store.specs.Changes.{kept, replaced}
@@ -101,6 +101,14 @@ pub record RunAsked (s : List ℤ) (low high asked : ℤ) (found : List ℕ) (t 
   pub marks : length found ≡ 65536
   pub few-listed : t .listed ≤ capacity
   pub few-useful : t .useful ≤ capacity
+
+-- the records that live on written one after the other behind record 0 of a store, the words from its last record on as they were; what lies between
+-- is left open
+pub record KeptFirst (c later : ℕ) (s : List ℤ) (k : ℕ) (s′ : List ℤ) : Type 0 where
+  pub count : length (kept c later (recordsOf s)) ≡ k
+  pub within : k ≤ heldOf s
+  pub first : take (recordWords * k + recordWords) s′ ≡ take recordWords s ++ wordsOfAll (kept c later (recordsOf s))
+  pub unused : drop (recordWords * heldOf s + recordWords) s′ ≡ drop (recordWords * heldOf s + recordWords) s
 
 -- records in range, their number, and the place for them: what the two halves of a step hand over
 pub record Taken (c later : ℕ) (rs : List Record) (m : ℕ) (dead : List ℤ) : Type 0 where

@@ -14,7 +14,8 @@ ghost use Rattle.store.specs.Records.{recordWords, nowOf, heldOf, readRe
 ghost use Rattle.store.specs.Order.{slotOfKey, numberOfKey, precedes, hasId};
 ghost use Rattle.store.specs.Soundness.{isRanged, IsStore};
 ghost use Rattle.store.specs.Changes.{inserted, insertedAll, removed, placedIn, livesOn, kept, replaced, steppedRecords, withSpeeds};
-ghost use Rattle.store.specs.Walks.{HasWords, placeOf, indexOf, Taken, PlaceAsked};
+ghost use Rattle.store.specs.Walks.{HasWords, placeOf, indexOf, KeptFirst, Taken, PlaceAsked};
+use super::opening::clear;
 use super::soundness::key_in;
 use super::soundness::number_of_key;
 use super::soundness::phase_of_key;
@@ -247,27 +248,43 @@ pub fn place_in(p: usize, r: Report) -> Record
     }
 }
 
+// One pass over the records: one that lives on is written after those kept before it, any other to `dead`, placed in the phase `later`. Gives back how
+// many are kept. The count and the words after the kept records stay as they are: `take_dead` sets them.
+fn keep_live(store: &mut [i32], c: usize, later: usize, dead: &mut [i32]) -> usize
+    requires { ⌜ (IsStore (now store)) × (c ≤ 277777) × (later ≤ 277777) × (length (now dead) ≡ 7168) ⌝ }
+    ensures { λ k. ⌜ KeptFirst c later (now (store .entry)) k (now (store .exit)) ⌝ }
+    ensures { λ k. ⌜ Taken c later (recordsOf (now (store .entry))) (heldOf (now (store .entry)) - k) (now (dead .exit)) ⌝ }
+{
+    let n = held_of(store);
+    let mut k = 0;
+    let mut i = 0;
+    while i < n {
+        let r = Record::read_from(store, RECORD_WORDS * i + RECORD_WORDS);
+        if lives_on(c, later, r) {
+            write_record(store, RECORD_WORDS * k + RECORD_WORDS, r);
+            k += 1;
+            i += 1;
+        } else {
+            write_record(dead, RECORD_WORDS * (i - k), place_in(later, r.report));
+            i += 1;
+        }
+    }
+    k
+}
+
 // Takes the records of phases that do not live on out of the store, and writes them to `dead`, placed in the phase `later`. Gives back how many.
 fn take_dead(store: &mut [i32], c: usize, later: usize, dead: &mut [i32]) -> usize
     requires { ⌜ (IsStore (now store)) × (c ≤ 277777) × (later ≤ 277777) × (length (now dead) ≡ 7168) ⌝ }
     ensures { λ m. ⌜ now (store .exit) ≡ storeOf (nowOf (now (store .entry))) (kept c later (recordsOf (now (store .entry)))) ⌝ }
     ensures { λ m. ⌜ Taken c later (recordsOf (now (store .entry))) m (now (dead .exit)) ⌝ }
 {
-    let mut n = held_of(store);
-    let mut m = 0;
-    let mut i = 0;
-    while i < n {
-        let r = Record::read_from(store, RECORD_WORDS * i + RECORD_WORDS);
-        if lives_on(c, later, r) {
-            i += 1;
-        } else {
-            write_record(dead, RECORD_WORDS * m, place_in(later, r.report));
-            remove_at(store, i);
-            m += 1;
-            n -= 1;
-        }
-    }
-    m
+    let n = held_of(store);
+    let k = keep_live(store, c, later, dead);
+    let start = RECORD_WORDS * k + RECORD_WORDS;
+    let end = RECORD_WORDS * n + RECORD_WORDS;
+    clear(&mut store[start..end]);
+    set_held(store, k);
+    n - k
 }
 
 // A speed in 16 bits.

@@ -6,7 +6,7 @@ ghost use lib.ListN.{length, replicate};
 ghost use Rattle.store.specs.Records.{storeWords, storeOf};
 
 // Every word zero.
-fn clear(words: &mut [i32])
+pub fn clear(words: &mut [i32])
     ensures { λ u. ⌜ now (words .exit) ≡ replicate (length (now (words .entry))) (pos 0) ⌝ }
 {
     let mut k = 0;

@@ -1,103 +1,80 @@
--- `store::changes::take_dead` meets its contract. The invariant: the records that live on stand before record i or are still to be looked at, and likewise those taken out.
+-- `store::changes::take_dead` meets its contract: after the pass, the words behind the kept records are zeroed and the count is set.
 -- Assumes nothing.
 use borrow.Author.Needs.{needs}
 use native.Mathlib.Omega.{arith}
-use Prim.Native.Nat.{_-_}
-use Rattle.store.proofs.SoundLawsRanges.{ranged-parts}
-use Rattle.store.proofs.ChangeLaws.{store-room, words-room}
-use Rattle.store.proofs.StepLaws.{Take, take-start, taken-ranged, take-live, take-dead, take-end}
+use borrow.Rule.Slice.PartMut.{same-len-mid}
+use lib.IntN.{ℤ}
+use Prim.Native.Nat.{_+_, _*_, _-_}
+use Rattle.store.proofs.ChangeLaws.{store-room}
+use Rattle.store.proofs.StepLaws.{taken-out}
 use Rattle.store.proofs.changes.take_dead.Statement.{statement}
 use Rattle.store.proofs.changes.take_dead.Tie as tie
 
-abbrev Inv-loop : tie.InvT-loop
-Inv-loop store₀ c later dead₀ n₀ m₀ i₀ store dead n m i = Take store₀ c later store dead n m i
-
-abbrev μ-loop : tie.MeasureT-loop
-μ-loop store₀ c later dead₀ n₀ m₀ i₀ store dead n m i = n - i
-
-held-of-requires : tie.Need-held-of-requires Inv-loop μ-loop
+held-of-requires : tie.Need-held-of-requires
 held-of-requires c κs = omega (arith, store-room _ (c .before .pre .0))
 
-loop-holds : tie.Need-loop-holds Inv-loop μ-loop
-loop-holds c = take-start _ _ _ _ _ (c .before .before .pre .0) (c .held-of .ensures) (c .before .before .pre .3)
+keep-live-requires : tie.Need-keep-live-requires
+keep-live-requires c κs = c .before .before .before .before .pre
 
-mul-read-from : tie.Need-mul-read-from Inv-loop μ-loop
-mul-read-from c = omega (arith, c .before .before .loop .inv)
+mul-start : tie.Need-mul-start
+mul-start c = omega (arith, store-room _ (c .before .before .before .before .before .before .before .pre .0), c .before .before .keep-live .ensures .0 .within)
 
-add-read-from : tie.Need-add-read-from Inv-loop μ-loop
-add-read-from c = omega (arith, c .before .before .loop .inv)
+add-start : tie.Need-add-start
+add-start c = omega (arith, store-room _ (c .before .before .before .before .before .before .before .pre .0), c .before .before .keep-live .ensures .0 .within)
 
-read-from-requires : tie.Need-read-from-requires Inv-loop μ-loop
-read-from-requires c κs = omega (arith, words-room _ (c .before .before .loop .inv .has), c .before .before .loop .inv)
+mul-end : tie.Need-mul-end
+mul-end c = omega (arith, store-room _ (c .before .before .before .before .before .before .before .pre .0), c .before .before .before .before .before .held-of .ensures)
 
-lives-on-requires : tie.Need-lives-on-requires Inv-loop μ-loop
-lives-on-requires c κs = c .before .before .before .before .before .before .pre .1
+add-end : tie.Need-add-end
+add-end c = omega (arith, store-room _ (c .before .before .before .before .before .before .before .pre .0), c .before .before .before .before .before .held-of .ensures)
 
-add-i : tie.Need-add-i Inv-loop μ-loop
-add-i c = search needs
+mul-clear : tie.Need-mul-clear
+mul-clear c = search needs
 
-loop-less : tie.Need-loop-less Inv-loop μ-loop
-loop-less c = search needs
+sub-clear : tie.Need-sub-clear
+sub-clear c = omega (arith, c .before .before .keep-live .ensures .0 .within, c .before .before .before .before .before .held-of .ensures)
 
-loop-again : tie.Need-loop-again Inv-loop μ-loop
-loop-again c = take-live _ _ _ _ _ _ _ _ (c .before .before .before .before .before .loop .inv) (c .before .before .before .before .loop-test .taken) _ (c .before .before .read-from .ensures) _ (c .before .lives-on .ensures) (c .if1 .taken)
+part-clear-start : tie.Need-part-clear-start
+part-clear-start c = omega (arith, c .before .before .keep-live .ensures .0 .within, c .before .before .before .before .before .held-of .ensures)
 
-mul-write-record : tie.Need-mul-write-record Inv-loop μ-loop
-mul-write-record c = omega (arith, c .before .before .before .before .before .before .loop .inv)
+part-clear-end : tie.Need-part-clear-end
+part-clear-end c = omega (arith, c .before .before .keep-live .kept .0, store-room _ (c .before .before .before .before .before .before .before .pre .0), c .before .before .before .before .before .held-of .ensures)
 
-place-in-requires : tie.Need-place-in-requires Inv-loop μ-loop
-place-in-requires c κs = let g = ranged-parts (c .before .before .before .read-from .result) (taken-ranged _ _ _ _ _ _ _ _ (c .before .before .before .before .before .before .loop .inv) (c .before .before .before .before .before .loop-test .taken) _ (c .before .before .before .read-from .ensures)) in (c .before .before .before .before .before .before .before .before .before .pre .2, g .report, g .time)
+clear-requires : tie.Need-clear-requires
+clear-requires c κs = search needs
 
-write-record-requires : tie.Need-write-record-requires Inv-loop μ-loop
-write-record-requires c κs = omega (arith, c .before .before .before .before .before .before .before .loop .inv, c .before .before .before .before .before .before .loop-test .taken)
+set-held-requires : tie.Need-set-held-requires
+set-held-requires c κs = let k = 7 * c .before .before .before .before .before .before .keep-live .result + 7 in let room = store-room _ (c .before .before .before .before .before .before .before .before .before .before .before .pre .0) in (omega (arith, room, c .before .before .before .before .before .before .keep-live .kept .0, same-len-mid {X = ℤ} k (7 * c .before .before .before .before .before .before .before .before .before .held-of .result + 7 - k) (c .before .before .before .before .before .before .keep-live .last .0) (c .before .before .clear .last .0) (c .before .before .clear .kept .0)), omega (arith, room, c .before .before .before .before .before .before .keep-live .ensures .0 .within))
 
-remove-at-requires : tie.Need-remove-at-requires Inv-loop μ-loop
-remove-at-requires c κs = (c .before .before .before .before .before .before .before .before .before .before .loop .inv .has, omega (arith, c .before .before .before .before .before .before .before .before .before .before .loop .inv, c .before .before .before .before .before .before .before .before .before .loop-test .taken))
+sub-result : tie.Need-sub-result
+sub-result c = omega (arith, c .before .before .before .before .before .before .before .before .keep-live .ensures .0 .within, c .before .before .before .before .before .before .before .before .before .before .before .held-of .ensures)
 
-add-m : tie.Need-add-m Inv-loop μ-loop
-add-m c = omega (arith, c .before .before .before .before .before .before .before .before .before .before .before .before .loop .inv)
+same-length : tie.Need-same-length
+same-length c = search needs
 
-sub-n : tie.Need-sub-n Inv-loop μ-loop
-sub-n c = omega (arith, c .before .before .before .before .before .before .before .before .before .before .before .before .loop .inv, c .before .before .before .before .before .before .before .before .before .before .before .loop-test .taken)
+same-length-2 : tie.Need-same-length-2
+same-length-2 c = search needs
 
-loop-less-2 : tie.Need-loop-less-2 Inv-loop μ-loop
-loop-less-2 c = omega (arith, c .before .before .before .before .before .before .before .before .before .before .before .before .loop .inv, c .before .before .before .before .before .before .before .before .before .before .before .loop-test .taken)
-
-loop-again-2 : tie.Need-loop-again-2 Inv-loop μ-loop
-loop-again-2 c = take-dead _ _ _ _ _ _ _ _ (c .before .before .before .before .before .before .before .before .before .before .before .before .loop .inv) (c .before .before .before .before .before .before .before .before .before .before .before .loop-test .taken) _ (c .before .before .before .before .before .before .before .before .before .read-from .ensures) _ (c .before .before .before .before .before .before .before .before .lives-on .ensures) (c .before .before .before .before .before .before .before .if1 .left) _ (c .before .before .before .before .before .place-in .ensures) _ (c .before .before .before .before .write-record .ensures) _ (c .before .remove-at .ensures)
-
-same-length : tie.Need-same-length Inv-loop μ-loop
-same-length c = omega (arith, words-room _ (c .before .loop .inv .has), store-room _ (c .before .before .before .before .pre .0))
-
-same-length-2 : tie.Need-same-length-2 Inv-loop μ-loop
-same-length-2 c = omega (arith, c .before .loop .inv .long, c .before .before .before .before .pre .3)
-
-returns : tie.Need-returns Inv-loop μ-loop
-returns c = take-end _ _ _ _ _ _ _ _ (c .before .loop .inv) (c .loop-test .left)
+returns : tie.Need-returns
+returns c = (taken-out _ _ _ _ _ _ _ _ (c .before .before .before .before .before .before .before .before .before .before .before .before .before .pre .0) (c .before .before .before .before .before .before .before .before .before .before .before .held-of .ensures) (c .before .before .before .before .before .before .before .before .keep-live .ensures .0) (c .before .before .before .before .before .before .before .before .keep-live .kept .0) (c .before .before .before .before .clear .ensures) (c .before .set-held .ensures), rw (c .before .before .before .before .before .before .before .before .before .before .before .held-of .ensures) (c .before .before .before .before .before .before .before .before .keep-live .ensures .1))
 
 pub take-dead-spec : {M : Type 1} → statement M
 take-dead-spec =
     tie.close
     (tie.spec
-    Inv-loop
-    μ-loop
     held-of-requires
-    loop-holds
-    mul-read-from
-    add-read-from
-    read-from-requires
-    lives-on-requires
-    add-i
-    loop-less
-    loop-again
-    mul-write-record
-    place-in-requires
-    write-record-requires
-    remove-at-requires
-    add-m
-    sub-n
-    loop-less-2
-    loop-again-2
+    keep-live-requires
+    mul-start
+    add-start
+    mul-end
+    add-end
+    mul-clear
+    sub-clear
+    part-clear-start
+    part-clear-end
+    clear-requires
+    set-held-requires
+    sub-result
     same-length
     same-length-2
     returns)
