@@ -2,16 +2,16 @@
 -- keeps.
 -- Assumes nothing.
 use mathlib.Core.Path.{_≡_, refl, sym, ap, _∙_}
-use mathlib.Core.Bool.{Bool, true, false, cond, _&&_, _||_}
+use mathlib.Core.Bool.{Bool, true, false, cond, _||_}
 use mathlib.Core.List.{List, [], _∷_, _++_, append-assoc, append-nil}
-use Prim.Native.Nat.{ℕ, zero, suc, _+_, _-_, _*_, _≤_, _<_, _^_}
+use Prim.Native.Nat.{ℕ, suc, _+_, _-_, _*_, _≤_, _<_, _^_}
 use native.Mathlib.Nat.{add-zero}
 use native.Mathlib.Omega.{arith}
 use lib.IntN.{ℤ, pos}
-use lib.Signed.{mag, ltZ}
+use lib.Signed.{mag}
 use lib.Dec.{ltb}
-use lib.ListN.{length, getD, set, take, drop, replicate, length-append, length-take, length-drop, length-set, length-replicate, take-append-drop, replicate-append-replicate, drop-of-length-le}
-use lib.Seq.{getD-drop, drop-drop, drop-cons, sets, sets-eq, take-at, drop-at, length-take-le, take-all}
+use lib.ListN.{length, getD, set, take, drop, replicate, length-append, length-take, length-drop, take-append-drop, replicate-append-replicate, drop-of-length-le}
+use lib.Seq.{getD-drop, drop-drop, drop-cons, sets-eq, take-at, drop-at, length-take-le, take-all}
 use native.Mathlib.Numerals.{add-one, towards-suc}
 use borrow.Author.Tests.{lt-ltb, le-ltb, ltb-true, ltb-false}
 use mir.Syntax.{w32}
@@ -85,21 +85,6 @@ module _ (s : List ℤ) (n i : ℕ) (id : ℤ) (e : firstOf (hasThat (back w32 i
 
 pub index-read : (s : List ℤ) (id : ℤ) (p : ℕ) → p ≡ firstOf (hasThat (back w32 id)) (recordsOf s) → mag id < 2 ^ hbits w32 → p ≡ firstOf (hasThat id) (recordsOf s)
 index-read s id p e g = e ∙ ap (λ (z : ℤ). firstOf (hasThat z) (recordsOf s)) (held w32 id g)
-
--- ---- the order of two records, test by test
-module _ (a b : Record) (r : Bool) (e : r ≡ ltZ (a .key) (b .key)) where
-  pub before-by-key : r ≡ true → true ≡ precedes a b
-  unfolding precedes
-  before-by-key t = rw (← e, t)
-
-  module _ (f : r ≡ false) (q : Bool) (h : q ≡ eqZ (a .key) (b .key)) where
-    pub before-by-id : q ≡ true → (x : Bool) → x ≡ ltZ (a .report .id) (b .report .id) → x ≡ precedes a b
-    unfolding precedes
-    before-by-id t x k = rw (← e, f, ← h, t, k)
-
-    pub not-before : q ≡ false → false ≡ precedes a b
-    unfolding precedes
-    not-before t = rw (← e, f, ← h, t)
 
 -- ---- words moved by seven places, as the code writes them
 pub moved-up : (l w : List ℤ) (i : ℕ) → w ≡ movedUp (pos 0) recordWords l i → recordWords < i → i ≤ length l → mag (getD w (i - 1 - recordWords) (pos 0)) < 2 ^ hbits w32 → set w (i - 1) (back w32 (getD w (i - 1 - recordWords) (pos 0))) ≡ movedUp (pos 0) recordWords l (i - 1)

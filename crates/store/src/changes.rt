@@ -4,11 +4,9 @@ ghost use mathlib.Core.Bool.{true};
 ghost use mathlib.Core.List.{_++_};
 ghost use Prim.Native.Nat.{_<_, _≤_, _+_, _-_, _*_};
 ghost use lib.IntN.{pos};
-ghost use lib.Signed.{ltZ};
 ghost use lib.ListN.{length, take, drop, set, replicate};
-ghost use Rattle.ints.specs.Whole.{eqZ};
 ghost use Rattle.grid.specs.Units.{capacity};
-ghost use Rattle.grid.specs.Reports.{isTime, isSpeed, inRange};
+ghost use Rattle.grid.specs.Reports.{isTime, inRange};
 ghost use Rattle.rows.specs.Table.{tableWords, withSpeed};
 ghost use Rattle.store.specs.Records.{recordWords, nowOf, heldOf, readRecords, recordsOf, wordsOf, storeOf};
 ghost use Rattle.store.specs.Order.{slotOfKey, numberOfKey, precedes, hasId};
@@ -16,9 +14,12 @@ ghost use Rattle.store.specs.Soundness.{isRanged, IsStore};
 ghost use Rattle.store.specs.Changes.{inserted, insertedAll, removed, placedIn, livesOn, kept, replaced, steppedRecords, withSpeeds};
 ghost use Rattle.store.specs.Walks.{HasWords, placeOf, indexOf, KeptFirst, Taken, PlaceAsked};
 use super::opening::clear;
+use super::soundness::is_same;
 use super::soundness::key_in;
+use super::soundness::narrow;
 use super::soundness::number_of_key;
 use super::soundness::phase_of_key;
+use super::soundness::precedes;
 use super::soundness::slot_of_key;
 use crate::RECORD_WORDS;
 use crate::Record;
@@ -26,31 +27,6 @@ use crate::held_of;
 use grid::Report;
 use rows::is_live;
 use rows::widen_row;
-
-pub fn is_below(a: i32, b: i32) -> bool
-    ensures { λ r. ⌜ r ≡ ltZ a b ⌝ }
-{
-    a < b
-}
-
-pub fn is_same(a: i32, b: i32) -> bool
-    ensures { λ r. ⌜ r ≡ eqZ a b ⌝ }
-{
-    a <= b && b <= a
-}
-
-// Whether record a stands before record b: by key, then id.
-pub fn is_before(a: Record, b: Record) -> bool
-    ensures { λ r. ⌜ r ≡ precedes a b ⌝ }
-{
-    if is_below(a.key, b.key) {
-        return true;
-    }
-    if is_same(a.key, b.key) {
-        return is_below(a.report.id, b.report.id);
-    }
-    false
-}
 
 // How many records stand before the one of an id; all of them where none has it.
 fn index_of(store: &[i32], id: i32) -> usize
@@ -78,7 +54,7 @@ fn place_of(store: &[i32], r: Record) -> usize
     let mut i = 0;
     while i < n {
         let a = Record::read_from(store, RECORD_WORDS * i + RECORD_WORDS);
-        if is_before(r, a) {
+        if precedes(r, a) {
             return i;
         }
         i += 1;
@@ -287,21 +263,13 @@ fn take_dead(store: &mut [i32], c: usize, later: usize, dead: &mut [i32]) -> usi
     n - k
 }
 
-// A speed in 16 bits.
-fn speed(v: i32) -> i16
-    requires { ⌜ isSpeed v ≡ true ⌝ }
-    ensures { λ r. ⌜ r ≡ v ⌝ }
-{
-    v as i16
-}
-
 // The row of a record's cell widened by its speeds.
 pub fn widen(table: &mut [i16], r: Record)
     requires { ⌜ (length (now table) ≡ tableWords) × (isRanged r ≡ true) ⌝ }
     ensures { λ u. ⌜ now (table .exit) ≡ withSpeed (now (table .entry)) (slotOfKey (r .key)) (numberOfKey (r .key)) (r .report .vx) (r .report .vy) ⌝ }
 {
-    let vx = speed(r.report.vx);
-    let vy = speed(r.report.vy);
+    let vx = narrow(r.report.vx);
+    let vy = narrow(r.report.vy);
     widen_row(table, slot_of_key(r.key), number_of_key(r.key), vx, vy);
 }
 

@@ -39,7 +39,7 @@ const MOST_HELD: i32 = 1024;
 // The marks for ids, from 0 to the last.
 const MARKS: usize = 65536;
 
-fn is_same(a: i32, b: i32) -> bool
+pub fn is_same(a: i32, b: i32) -> bool
     ensures { λ r. ⌜ r ≡ eqZ a b ⌝ }
 {
     a <= b && b <= a
@@ -241,7 +241,7 @@ fn ids_distinct(words: &[i32], n: usize) -> bool
 }
 
 // A speed in 16 bits.
-fn narrow(v: i32) -> i16
+pub fn narrow(v: i32) -> i16
     requires { ⌜ isSpeed v ≡ true ⌝ }
     ensures { λ r. ⌜ r ≡ v ⌝ }
 {

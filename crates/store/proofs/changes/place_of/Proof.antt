@@ -31,8 +31,8 @@ add-read-from c = search needs
 read-from-requires : tie.Need-read-from-requires Inv-loop μ-loop
 read-from-requires c κs = search needs
 
-is-before-requires : tie.Need-is-before-requires Inv-loop μ-loop
-is-before-requires c κs = search needs
+precedes-requires : tie.Need-precedes-requires Inv-loop μ-loop
+precedes-requires c κs = search needs
 
 returns : tie.Need-returns Inv-loop μ-loop
 returns c = search (walk-here, place-tested)
@@ -60,7 +60,7 @@ place-of-spec =
     mul-read-from
     add-read-from
     read-from-requires
-    is-before-requires
+    precedes-requires
     returns
     add-i
     loop-less
