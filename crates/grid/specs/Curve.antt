@@ -1,9 +1,13 @@
 -- The Hilbert curve through a square of side 2 ^ k, for every order k, by document 01's quadrant rule, and the cell of a number on it.
 -- Assumes nothing.
+use mathlib.Core.Path.{_≡_}
 use mathlib.Core.Bool.{Bool, true, false, cond}
+use mathlib.Core.List.{List}
 use Prim.Native.Nat.{ℕ, zero, suc, _+_, _-_, _*_, _/_, _%_, _^_}
 use lib.Dec.{leb}
-use Rattle.grid.specs.Units.{order}
+use lib.ListN.{getD}
+use Rattle.grid.specs.Units.{order, side}
+use Rattle.grid.specs.Places.{OnGrid}
 use Rattle.grid.specs.declared.Cell.{Cell}
 
 abbrev pub cell : ℕ → ℕ → Cell
@@ -77,6 +81,10 @@ curveNumber = numberAt order
 
 abbrev pub cellOfNumber : ℕ → Cell
 cellOfNumber = cellAt order
+
+-- a table of the curve numbers of the grid's cells, by 32 times the row and the column
+pub record IsCurve (numbers : List ℕ) : Type 0 where
+  pub numbered : (c : Cell) → OnGrid c → getD numbers (c .row * side + c .column) 0 ≡ curveNumber c
 
 -- how many sides must be crossed from one cell to the other: 1 where they share a side
 abbrev pub apart : Cell → Cell → ℕ

@@ -5,7 +5,7 @@ ghost use Prim.Native.Nat.{_<_, _≤_, _^_};
 ghost use lib.IntN.{natAbs, _-ℤ_};
 ghost use Rattle.grid.specs.Units.{cells};
 ghost use Rattle.grid.specs.Places.{positionAfter, columnOf, rowOf, cellOf, OnGrid};
-ghost use Rattle.grid.specs.Curve.{curveNumber, cellOfNumber};
+ghost use Rattle.grid.specs.Curve.{curveNumber, cellOfNumber, IsCurve};
 ghost use Rattle.grid.specs.Reports.{inRange, xAt, yAt, cellAtTime, inRect, isListed};
 ghost use Rattle.grid.specs.Small.{SmallAxis, SmallReport};
 ghost use Rattle.ints.specs.Whole.{between};
@@ -94,11 +94,27 @@ fn wide(n: u16) -> usize
     n as usize
 }
 
+// The table of curve numbers, held by a pass over many cells: an index into a constant array writes the whole array out first.
+pub fn curve_numbers() -> [u16; 1024]
+    ensures { λ r. ⌜ IsCurve r ⌝ }
+{
+    CURVE
+}
+
+// The curve number of a cell, by that table.
+pub fn number_in(numbers: &[u16; 1024], c: Cell) -> usize
+    requires { ⌜ (IsCurve (now numbers)) × (OnGrid c) ⌝ }
+    ensures { λ r. ⌜ r ≡ curveNumber c ⌝ }
+{
+    wide(numbers[c.row * SIDE + c.column])
+}
+
 pub fn number_of_cell(c: Cell) -> usize
     requires { ⌜ OnGrid c ⌝ }
     ensures { λ r. ⌜ r ≡ curveNumber c ⌝ }
 {
-    wide(CURVE[c.row * SIDE + c.column])
+    let numbers = curve_numbers();
+    number_in(&numbers, c)
 }
 
 pub fn cell_of_number(n: usize) -> Cell

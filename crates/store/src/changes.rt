@@ -6,6 +6,7 @@ ghost use Prim.Native.Nat.{_<_, _≤_, _+_, _-_, _*_};
 ghost use lib.IntN.{pos};
 ghost use lib.ListN.{length, take, drop, set, replicate};
 ghost use Rattle.grid.specs.Units.{capacity};
+ghost use Rattle.grid.specs.Curve.{IsCurve};
 ghost use Rattle.grid.specs.Reports.{isTime, inRange};
 ghost use Rattle.rows.specs.Table.{tableWords, withSpeed};
 ghost use Rattle.store.specs.Records.{recordWords, nowOf, heldOf, readRecords, recordsOf, wordsOf, storeOf};
@@ -213,15 +214,23 @@ fn lives_on(c: usize, later: usize, r: Record) -> bool
     is_live(later, phase_of_key(c, r.key))
 }
 
-// A report placed in phase p.
+// A report placed in phase p. `numbers` is the grid's table of curve numbers.
+fn place_by(numbers: &[u16; 1024], p: usize, r: Report) -> Record
+    requires { ⌜ (IsCurve (now numbers)) × (p ≤ 277777) × (inRange r ≡ true) × (isTime (r .t) ≡ true) ⌝ }
+    ensures { λ a. ⌜ a ≡ placedIn p r ⌝ }
+{
+    Record {
+        key: key_in(numbers, p, r),
+        report: r,
+    }
+}
+
 pub fn place_in(p: usize, r: Report) -> Record
     requires { ⌜ (p ≤ 277777) × (inRange r ≡ true) × (isTime (r .t) ≡ true) ⌝ }
     ensures { λ a. ⌜ a ≡ placedIn p r ⌝ }
 {
-    Record {
-        key: key_in(p, r),
-        report: r,
-    }
+    let numbers = grid::curve_numbers();
+    place_by(&numbers, p, r)
 }
 
 // One pass over the records: one that lives on is written after those kept before it, any other to `dead`, placed in the phase `later`. Gives back how
@@ -231,6 +240,7 @@ fn keep_live(store: &mut [i32], c: usize, later: usize, dead: &mut [i32]) -> usi
     ensures { λ k. ⌜ KeptFirst c later (now (store .entry)) k (now (store .exit)) ⌝ }
     ensures { λ k. ⌜ Taken c later (recordsOf (now (store .entry))) (heldOf (now (store .entry)) - k) (now (dead .exit)) ⌝ }
 {
+    let numbers = grid::curve_numbers();
     let n = held_of(store);
     let mut k = 0;
     let mut i = 0;
@@ -241,7 +251,11 @@ fn keep_live(store: &mut [i32], c: usize, later: usize, dead: &mut [i32]) -> usi
             k += 1;
             i += 1;
         } else {
-            write_record(dead, RECORD_WORDS * (i - k), place_in(later, r.report));
+            write_record(
+                dead,
+                RECORD_WORDS * (i - k),
+                place_by(&numbers, later, r.report),
+            );
             i += 1;
         }
     }

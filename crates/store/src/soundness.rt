@@ -5,6 +5,7 @@ ghost use mathlib.Core.Bool.{_&&_, true};
 ghost use Prim.Native.Nat.{_≤_, _+_, _*_};
 ghost use lib.ListN.{length, drop};
 ghost use Rattle.ints.specs.Whole.{up, eqZ, between};
+ghost use Rattle.grid.specs.Curve.{IsCurve};
 ghost use Rattle.grid.specs.Reports.{isTime, isId, isPosition, isSpeed, inRange};
 ghost use Rattle.rows.specs.Phases.{phaseOf, livePhases};
 ghost use Rattle.rows.specs.Row.{holds};
@@ -163,30 +164,30 @@ fn phase_at(t: i32) -> usize
 }
 
 // The key of a report in phase p: the slot, and the curve number of the cell at the phase's reference time. 277,777 is the phase of the
-// last time.
-pub fn key_in(p: usize, r: Report) -> i32
-    requires { ⌜ (p ≤ 277777) × (inRange r ≡ true) × (isTime (r .t) ≡ true) ⌝ }
+// last time. `numbers` is the grid's table of curve numbers.
+pub fn key_in(numbers: &[u16; 1024], p: usize, r: Report) -> i32
+    requires { ⌜ (IsCurve (now numbers)) × (p ≤ 277777) × (inRange r ≡ true) × (isTime (r .t) ≡ true) ⌝ }
     ensures { λ k. ⌜ k ≡ keyIn p r ⌝ }
 {
-    let number = grid::number_of_cell(r.cell_at(rows::reference_time(p)));
+    let number = grid::number_in(numbers, r.cell_at(rows::reference_time(p)));
     (rows::slot_of(p) * grid::CELLS + number) as i32
 }
 
 // Whether the key is right for a live phase not before that of t.
-fn key_is_right(time: i32, r: Record) -> bool
-    requires { ⌜ (isTime time ≡ true) × (inRange (r .report) ≡ true) × (isTime (r .report .t) ≡ true) ⌝ }
+fn key_is_right(numbers: &[u16; 1024], time: i32, r: Record) -> bool
+    requires { ⌜ (IsCurve (now numbers)) × (isTime time ≡ true) × (inRange (r .report) ≡ true) × (isTime (r .report .t) ≡ true) ⌝ }
     ensures { λ b. ⌜ b ≡ keyIsRight time r ⌝ }
 {
     let p = phase_of_key(phase_at(time), r.key);
     if p < phase_at(r.report.t) {
         return false;
     }
-    is_same(r.key, key_in(p, r.report))
+    is_same(r.key, key_in(numbers, p, r.report))
 }
 
 // Ranges, t at most now, key right.
-fn is_sound_record(time: i32, r: Record) -> bool
-    requires { ⌜ isTime time ≡ true ⌝ }
+fn is_sound_record(numbers: &[u16; 1024], time: i32, r: Record) -> bool
+    requires { ⌜ (IsCurve (now numbers)) × (isTime time ≡ true) ⌝ }
     ensures { λ b. ⌜ b ≡ isSoundRecord time r ⌝ }
 {
     if !in_range(r.report) {
@@ -195,7 +196,7 @@ fn is_sound_record(time: i32, r: Record) -> bool
     if !is_between(0, time, r.report.t) {
         return false;
     }
-    key_is_right(time, r)
+    key_is_right(numbers, time, r)
 }
 
 // Whether the first n records are sound, in one pass.
@@ -203,10 +204,11 @@ fn all_sound(words: &[i32], n: usize, time: i32) -> bool
     requires { ⌜ (recordWords * n ≤ length (now words)) × (isTime time ≡ true) ⌝ }
     ensures { λ r. ⌜ r ≡ allSound time (readRecords n (now (words .entry))) ⌝ }
 {
+    let numbers = grid::curve_numbers();
     let mut i = 0;
     while i < n {
         let r = Record::read_from(words, RECORD_WORDS * i);
-        if !is_sound_record(time, r) {
+        if !is_sound_record(&numbers, time, r) {
             return false;
         }
         i += 1;

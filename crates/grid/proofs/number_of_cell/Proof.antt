@@ -1,30 +1,17 @@
--- `grid::number_of_cell` meets its contract: the table holds the quadrant rule's numbers.
+-- `grid::number_of_cell` meets its contract: it looks the cell up in the table.
 -- Assumes nothing.
-use mathlib.Core.Path.{_∙_}
 use borrow.Author.Needs.{needs}
-use Rattle.grid.proofs.Tables as Tables
-use Rattle.grid.proofs.Curve.{table-number}
 use Rattle.grid.proofs.number_of_cell.Statement.{statement}
 use Rattle.grid.proofs.number_of_cell.Tie as tie
 
-mul-wide : tie.Need-mul-wide
-mul-wide c = search needs
+curve-numbers-requires : tie.Need-curve-numbers-requires
+curve-numbers-requires c κs = search needs
 
-add-wide : tie.Need-add-wide
-add-wide c = search needs
-
-mul-wide-2 : tie.Need-mul-wide-2
-mul-wide-2 c = search needs
-
-array-read-wide : tie.Need-array-read-wide
-array-read-wide c = search needs
-
-wide-requires : tie.Need-wide-requires
-wide-requires c κs = search needs
+number-in-requires : tie.Need-number-in-requires
+number-in-requires c κs = (c .before .curve-numbers .ensures, c .before .before .pre)
 
 returns : tie.Need-returns
-unfolding Tables.curve
-returns c = let e = c .before .before .before in c .wide .ensures ∙ table-number (e .args .c) (e .pre)
+returns c = c .number-in .ensures
 
 pub number-of-cell-spec : {M : Type 1} → statement M
-number-of-cell-spec = tie.close (tie.spec mul-wide add-wide mul-wide-2 array-read-wide wide-requires returns)
+number-of-cell-spec = tie.close (tie.spec curve-numbers-requires number-in-requires returns)

@@ -10,16 +10,19 @@ use Rattle.store.proofs.changes.keep_live.Statement.{statement}
 use Rattle.store.proofs.changes.keep_live.Tie as tie
 
 abbrev Inv-loop : tie.InvT-loop
-Inv-loop store₀ c later dead₀ n k₀ i₀ store dead k i = Pass store₀ c later n store dead k i
+Inv-loop store₀ c later dead₀ numbers n k₀ i₀ store dead k i = Pass store₀ c later n store dead k i
 
 abbrev μ-loop : tie.MeasureT-loop
-μ-loop store₀ c later dead₀ n k₀ i₀ store dead k i = n - i
+μ-loop store₀ c later dead₀ numbers n k₀ i₀ store dead k i = n - i
+
+curve-numbers-requires : tie.Need-curve-numbers-requires Inv-loop μ-loop
+curve-numbers-requires c κs = search needs
 
 held-of-requires : tie.Need-held-of-requires Inv-loop μ-loop
-held-of-requires c κs = omega (arith, store-room _ (c .before .pre .0))
+held-of-requires c κs = omega (arith, store-room _ (c .before .before .pre .0))
 
 loop-holds : tie.Need-loop-holds Inv-loop μ-loop
-loop-holds c = pass-start _ _ _ _ _ (c .before .before .pre .0) (c .held-of .ensures) (c .before .before .pre .3)
+loop-holds c = pass-start _ _ _ _ _ (c .before .before .before .pre .0) (c .held-of .ensures) (c .before .before .before .pre .3)
 
 mul-read-from : tie.Need-mul-read-from Inv-loop μ-loop
 mul-read-from c = omega (arith, c .before .before .loop .inv)
@@ -31,7 +34,7 @@ read-from-requires : tie.Need-read-from-requires Inv-loop μ-loop
 read-from-requires c κs = omega (arith, c .before .before .loop .inv)
 
 lives-on-requires : tie.Need-lives-on-requires Inv-loop μ-loop
-lives-on-requires c κs = c .before .before .before .before .before .before .pre .1
+lives-on-requires c κs = c .before .before .before .before .before .before .before .pre .1
 
 mul-write-record : tie.Need-mul-write-record Inv-loop μ-loop
 mul-write-record c = omega (arith, c .before .before .before .before .before .before .loop .inv)
@@ -60,11 +63,11 @@ sub-write-record c = omega (arith, c .before .before .before .before .before .be
 mul-write-record-2 : tie.Need-mul-write-record-2 Inv-loop μ-loop
 mul-write-record-2 c = omega (arith, c .before .before .before .before .before .before .loop .inv)
 
-place-in-requires : tie.Need-place-in-requires Inv-loop μ-loop
-place-in-requires c κs = let g = ranged-parts (c .before .before .before .read-from .result) (pass-ranged _ _ _ _ _ _ _ _ (c .before .before .before .before .before .before .loop .inv) (c .before .before .before .before .before .loop-test .taken) _ (c .before .before .before .read-from .ensures)) in (c .before .before .before .before .before .before .before .before .before .pre .2, g .report, g .time)
+place-by-requires : tie.Need-place-by-requires Inv-loop μ-loop
+place-by-requires c κs = let g = ranged-parts (c .before .before .before .before .read-from .result) (pass-ranged _ _ _ _ _ _ _ _ (c .before .before .before .before .before .before .before .loop .inv) (c .before .before .before .before .before .before .loop-test .taken) _ (c .before .before .before .before .read-from .ensures)) in (c .before .before .before .before .before .before .before .before .before .before .curve-numbers .ensures, c .before .before .before .before .before .before .before .before .before .before .before .pre .2, g .report, g .time)
 
 write-record-requires-2 : tie.Need-write-record-requires-2 Inv-loop μ-loop
-write-record-requires-2 c κs = omega (arith, c .before .before .before .before .before .before .before .loop .inv, c .before .before .before .before .before .before .loop-test .taken)
+write-record-requires-2 c κs = omega (arith, c .before .before .before .before .before .before .before .before .loop .inv, c .before .before .before .before .before .before .before .loop-test .taken)
 
 add-i-2 : tie.Need-add-i-2 Inv-loop μ-loop
 add-i-2 c = search needs
@@ -73,13 +76,13 @@ loop-less-2 : tie.Need-loop-less-2 Inv-loop μ-loop
 loop-less-2 c = search needs
 
 loop-again-2 : tie.Need-loop-again-2 Inv-loop μ-loop
-loop-again-2 c = pass-dead _ _ _ _ _ _ _ _ (c .before .before .before .before .before .before .before .before .before .loop .inv) (c .before .before .before .before .before .before .before .before .loop-test .taken) _ (c .before .before .before .before .before .before .read-from .ensures) _ (c .before .before .before .before .before .lives-on .ensures) (c .before .before .before .before .if1 .left) _ (c .before .before .place-in .ensures) _ (c .before .write-record2 .ensures)
+loop-again-2 c = pass-dead _ _ _ _ _ _ _ _ (c .before .before .before .before .before .before .before .before .before .before .loop .inv) (c .before .before .before .before .before .before .before .before .before .loop-test .taken) _ (c .before .before .before .before .before .before .before .read-from .ensures) _ (c .before .before .before .before .before .before .lives-on .ensures) (c .before .before .before .before .before .if1 .left) _ (c .before .before .place-by .ensures) _ (c .before .write-record2 .ensures)
 
 same-length : tie.Need-same-length Inv-loop μ-loop
-same-length c = omega (arith, c .before .loop .inv .long, store-room _ (c .before .before .before .before .pre .0))
+same-length c = omega (arith, c .before .loop .inv .long, store-room _ (c .before .before .before .before .before .pre .0))
 
 same-length-2 : tie.Need-same-length-2 Inv-loop μ-loop
-same-length-2 c = omega (arith, c .before .loop .inv .long-dead, c .before .before .before .before .pre .3)
+same-length-2 c = omega (arith, c .before .loop .inv .long-dead, c .before .before .before .before .before .pre .3)
 
 returns : tie.Need-returns Inv-loop μ-loop
 returns c = pass-end _ _ _ _ _ _ _ _ (c .before .loop .inv) (c .loop-test .left)
@@ -90,6 +93,7 @@ keep-live-spec =
     (tie.spec
     Inv-loop
     μ-loop
+    curve-numbers-requires
     held-of-requires
     loop-holds
     mul-read-from
@@ -105,7 +109,7 @@ keep-live-spec =
     loop-again
     sub-write-record
     mul-write-record-2
-    place-in-requires
+    place-by-requires
     write-record-requires-2
     add-i-2
     loop-less-2

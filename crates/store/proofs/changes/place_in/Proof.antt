@@ -1,17 +1,17 @@
--- `store::changes::place_in` meets its contract: the key in the phase, and the report.
+-- `store::changes::place_in` meets its contract: the report is placed by the table of curve numbers.
 -- Assumes nothing.
 use borrow.Author.Needs.{needs}
-use mathlib.Core.Path.{_∙_}
-use mir.Syntax.{w32}
-use Rattle.ints.proofs.Machine.{held}
 use Rattle.store.proofs.changes.place_in.Statement.{statement}
 use Rattle.store.proofs.changes.place_in.Tie as tie
 
-key-in-requires : tie.Need-key-in-requires
-key-in-requires c κs = search needs
+curve-numbers-requires : tie.Need-curve-numbers-requires
+curve-numbers-requires c κs = search needs
+
+place-by-requires : tie.Need-place-by-requires
+place-by-requires c κs = let p = c .before .before .pre in (c .before .curve-numbers .ensures, p .0, p .1, p .2)
 
 returns : tie.Need-returns
-returns c = let e = held w32 (c .key-in .result) (search needs) ∙ c .key-in .ensures in λ i. record { key = e i; report = c .before .args .r }
+returns c = c .place-by .ensures
 
 pub place-in-spec : {M : Type 1} → statement M
-place-in-spec = tie.close (tie.spec key-in-requires returns)
+place-in-spec = tie.close (tie.spec curve-numbers-requires place-by-requires returns)

@@ -20,13 +20,16 @@ use Rattle.store.proofs.soundness.all_sound.Statement.{statement}
 use Rattle.store.proofs.soundness.all_sound.Tie as tie
 
 abbrev Inv-loop : tie.InvT-loop
-Inv-loop words n time i₀ i = (i ≤ n) × (allSound (toZ w32 time) (readRecords n words) ≡ allSound (toZ w32 time) (left n i words))
+Inv-loop words n time numbers i₀ i = (i ≤ n) × (allSound (toZ w32 time) (readRecords n words) ≡ allSound (toZ w32 time) (left n i words))
 
 abbrev μ-loop : tie.MeasureT-loop
-μ-loop words n time i₀ i = n - i
+μ-loop words n time numbers i₀ i = n - i
+
+curve-numbers-requires : tie.Need-curve-numbers-requires Inv-loop μ-loop
+curve-numbers-requires c κs = search needs
 
 loop-holds : tie.Need-loop-holds Inv-loop μ-loop
-loop-holds c = (omega arith, ap (allSound (back w32 (c .args .time))) (left-at-first (c .args .n) (c .args .words .now)))
+loop-holds c = let a = c .before .args in (omega arith, ap (allSound (back w32 (a .time))) (left-at-first (a .n) (a .words .now)))
 
 mul-read-from : tie.Need-mul-read-from Inv-loop μ-loop
 mul-read-from c = search needs
@@ -35,7 +38,7 @@ read-from-requires : tie.Need-read-from-requires Inv-loop μ-loop
 read-from-requires c κs = search needs
 
 is-sound-record-requires : tie.Need-is-sound-record-requires Inv-loop μ-loop
-is-sound-record-requires c κs = rw (held w32 (c .before .before .before .args .time) (search needs)) (c .before .before .before .pre .1)
+is-sound-record-requires c κs = (c .before .before .before .before .curve-numbers .ensures, rw (held w32 (c .before .before .before .before .before .args .time) (search needs)) (c .before .before .before .before .before .pre .1))
 
 none : (time : ℤ) → allSound time [] ≡ true
 unfolding allSound
@@ -46,10 +49,10 @@ unfolding allSound
 more time r rs = refl
 
 -- the test of the record at i
-test : (c : tie.After-is-sound-record Inv-loop μ-loop) → c .is-sound-record .result ≡ isSoundRecord (back w32 (c .before .before .before .before .args .time)) (recordFrom (c .before .before .before .before .args .words .now) (recordWords * c .before .before .before .loop .i))
+test : (c : tie.After-is-sound-record Inv-loop μ-loop) → c .is-sound-record .result ≡ isSoundRecord (back w32 (c .before .before .before .before .before .before .args .time)) (recordFrom (c .before .before .before .before .before .before .args .words .now) (recordWords * c .before .before .before .before .loop .i))
 test c =
-    let a = c .before .before .before .before .args in
-    c .is-sound-record .ensures ∙ ap (isSoundRecord (back w32 (a .time))) (c .before .read-from .ensures)
+    let a = c .before .before .before .before .before .before .args in
+    c .is-sound-record .ensures ∙ ap (isSoundRecord (back w32 (a .time))) (c .before .before .read-from .ensures)
 
 -- the time is read back as it is
 at-time : (c : tie.Start Inv-loop μ-loop) → allSound (back w32 (c .args .time)) (readRecords (c .args .n) (c .args .words .now)) ≡ allSound (c .args .time) (readRecords (c .args .n) (c .args .words .now))
@@ -57,10 +60,10 @@ at-time c = ap (λ (z : ℤ). allSound z (readRecords (c .args .n) (c .args .wor
 
 returns : tie.Need-returns Inv-loop μ-loop
 returns c =
-    let at = c .before .before .before .before in
-    let a = at .before .args in
+    let at = c .before .before .before .before .before in
+    let a = at .before .before .args in
     let z = back w32 (a .time) in
-    failed-here (allSound z) (isSoundRecord z) (none z) (more z) (a .n) (at .loop .i) (a .words .now) (at .loop .inv .1) (omega arith) (sym (test (c .before)) ∙ not-true (c .before .is-sound-record .result) (c .if1 .taken)) ∙ at-time (at .before)
+    failed-here (allSound z) (isSoundRecord z) (none z) (more z) (a .n) (at .loop .i) (a .words .now) (at .loop .inv .1) (omega arith) (sym (test (c .before)) ∙ not-true (c .before .is-sound-record .result) (c .if1 .taken)) ∙ at-time (at .before .before)
 
 add-i : tie.Need-add-i Inv-loop μ-loop
 add-i c = search needs
@@ -70,17 +73,17 @@ loop-less c = search needs
 
 loop-again : tie.Need-loop-again Inv-loop μ-loop
 loop-again c =
-    let at = c .before .before .before .before in
-    let a = at .before .args in
+    let at = c .before .before .before .before .before in
+    let a = at .before .before .args in
     let z = back w32 (a .time) in
     (omega arith, passed-here (allSound z) (isSoundRecord z) (none z) (more z) (a .n) (at .loop .i) (a .words .now) (at .loop .inv .1) (omega arith) (sym (test (c .before)) ∙ not-false (c .before .is-sound-record .result) (c .if1 .left)))
 
 returns-2 : tie.Need-returns-2 Inv-loop μ-loop
 returns-2 c =
     let at = c .before in
-    let a = at .before .args in
+    let a = at .before .before .args in
     let z = back w32 (a .time) in
-    passed-all (allSound z) (isSoundRecord z) (none z) (more z) (a .n) (at .loop .i) (a .words .now) (at .loop .inv .1) (omega arith) ∙ at-time (at .before)
+    passed-all (allSound z) (isSoundRecord z) (none z) (more z) (a .n) (at .loop .i) (a .words .now) (at .loop .inv .1) (omega arith) ∙ at-time (at .before .before)
 
 pub all-sound-spec : {M : Type 1} → statement M
 all-sound-spec =
@@ -88,6 +91,7 @@ all-sound-spec =
     (tie.spec
     Inv-loop
     μ-loop
+    curve-numbers-requires
     loop-holds
     mul-read-from
     read-from-requires

@@ -40,7 +40,7 @@ key-is-right-requires : tie.Need-key-is-right-requires
 key-is-right-requires c κs =
     let s = c .before .before .before .before .before in
     let e = sym (not-after (c .before)) ∙ not-false (c .before .is-between .result) (c .if2 .left) in
-    rw (held w32 (s .args .time) (search needs)) (s .pre, in-range-is (c .before .before .before), earlier-time (s .args .time) (s .args .r .report .t) (s .pre) e)
+    (s .pre .0, rw (held w32 (s .args .time) (search needs)) (s .pre .1), in-range-is (c .before .before .before), earlier-time (s .args .time) (s .args .r .report .t) (s .pre .1) e)
 
 returns-3 : tie.Need-returns-3
 unfolding isSoundRecord

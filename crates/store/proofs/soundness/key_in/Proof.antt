@@ -28,24 +28,25 @@ at-reference c = got w64 (c .reference-time .result) (referenceTime (c .before .
 cell-at-requires : tie.Need-cell-at-requires
 cell-at-requires c κs =
     let a = c .before in
-    rw (at-reference c) (small-report (a .args .p) (a .args .r) (a .pre .0) (a .pre .1) (a .pre .2))
+    rw (at-reference c) (small-report (a .args .p) (a .args .r) (a .pre .1) (a .pre .2) (a .pre .3))
 
 cell-is : (c : tie.After-cell-at) → c .cell-at .result ≡ cellAtTime (c .before .before .args .r) (referenceTime (c .before .before .args .p))
 cell-is c = c .cell-at .ensures ∙ ap (cellAtTime (c .before .before .args .r)) (at-reference (c .before))
 
-number-of-cell-requires : tie.Need-number-of-cell-requires
-number-of-cell-requires c κs =
-    let a = c .before .before .args in
-    rw (cell-is c) (cell-on (xAt (a .r) (referenceTime (a .p))) (yAt (a .r) (referenceTime (a .p))))
+number-in-requires : tie.Need-number-in-requires
+number-in-requires c κs =
+    let s = c .before .before in
+    let a = s .args in
+    (s .pre .0, rw (cell-is c) (cell-on (xAt (a .r) (referenceTime (a .p))) (yAt (a .r) (referenceTime (a .p)))))
 
 slot-of-requires : tie.Need-slot-of-requires
 slot-of-requires c κs = search needs
 
 module _ (c : tie.After-slot-of) where
-  number-is : c .before .number-of-cell .result ≡ curveNumber (cellAtTime (c .before .before .before .before .args .r) (referenceTime (c .before .before .before .before .args .p)))
-  number-is = c .before .number-of-cell .ensures ∙ ap curveNumber (cell-is (c .before .before))
+  number-is : c .before .number-in .result ≡ curveNumber (cellAtTime (c .before .before .before .before .args .r) (referenceTime (c .before .before .before .before .args .p)))
+  number-is = c .before .number-in .ensures ∙ ap curveNumber (cell-is (c .before .before))
 
-  key-small : c .slot-of .result * cells + c .before .number-of-cell .result < 3072
+  key-small : c .slot-of .result * cells + c .before .number-in .result < 3072
   key-small =
       let a = c .before .before .before .before .args in
       omega (arith, c .slot-of .ensures, number-is, slot-on (a .p), cell-number-below (a .r) (referenceTime (a .p)))
@@ -63,7 +64,7 @@ returns : tie.Need-returns
 unfolding keyIn
 returns c =
     let h = key-small c in
-    held w32 (pos (c .slot-of .result * cells + c .before .number-of-cell .result)) (omega arith)
+    held w32 (pos (c .slot-of .result * cells + c .before .number-in .result)) (omega arith)
     ∙ ap pos (ap₂ (λ s n. s * cells + n) (c .slot-of .ensures) (number-is c))
 
 pub key-in-spec : {M : Type 1} → statement M
@@ -72,7 +73,7 @@ key-in-spec =
     (tie.spec
     reference-time-requires
     cell-at-requires
-    number-of-cell-requires
+    number-in-requires
     slot-of-requires
     mul-result
     add-result

@@ -64,7 +64,7 @@ key-in-requires : tie.Need-key-in-requires
 key-in-requires c κs =
     let s = c .before .before .before .before .before .before in
     let p = key-phase (c .before) in
-    (omega (arith, last-phase (s .args .time) (s .pre .0), phase-of-key-small (phaseOf (s .args .time)) (s .args .r .key)), s .pre .1, s .pre .2)
+    (s .pre .0, omega (arith, last-phase (s .args .time) (s .pre .1), phase-of-key-small (phaseOf (s .args .time)) (s .args .r .key)), s .pre .2, s .pre .3)
 
 is-same-requires : tie.Need-is-same-requires
 is-same-requires c κs = search needs

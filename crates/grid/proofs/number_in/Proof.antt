@@ -1,0 +1,30 @@
+-- `grid::number_in` meets its contract: it reads the entry of the cell.
+-- Assumes nothing.
+use mathlib.Core.Path.{_∙_}
+use borrow.Author.Needs.{needs}
+use native.Mathlib.Omega.{arith}
+use Rattle.grid.proofs.number_in.Statement.{statement}
+use Rattle.grid.proofs.number_in.Tie as tie
+
+mul-wide : tie.Need-mul-wide
+mul-wide c = search needs
+
+add-wide : tie.Need-add-wide
+add-wide c = search needs
+
+mul-wide-2 : tie.Need-mul-wide-2
+mul-wide-2 c = search needs
+
+element-copy-out-wide : tie.Need-element-copy-out-wide
+element-copy-out-wide c = search needs
+
+wide-requires : tie.Need-wide-requires
+wide-requires c κs = search needs
+
+returns : tie.Need-returns
+returns c = let e = c .before .before .before .before in c .wide .ensures ∙ e .pre .0 .numbered (e .args .c) (e .pre .1)
+
+pub number-in-spec : {M : Type 1} → statement M
+number-in-spec =
+    tie.close
+    (tie.spec mul-wide add-wide mul-wide-2 element-copy-out-wide wide-requires returns)
