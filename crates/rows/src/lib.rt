@@ -202,12 +202,27 @@ impl Row {
     }
 }
 
+// A row widened where it stands.
+fn widen_in(row: &mut Row, vx: i16, vy: i16)
+    ensures { λ u. ⌜ now (row .exit) ≡ widened (now (row .entry)) vx vy ⌝ }
+{
+    *row = Row::widen(*row, vx, vy);
+}
+
+// A copy of a row, widened. Its contract speaks of values alone, so whoever calls it needs no proof about a reference to a row.
+fn widen_copy(mut row: Row, vx: i16, vy: i16) -> Row
+    ensures { λ r. ⌜ r ≡ widened row vx vy ⌝ }
+{
+    widen_in(&mut row, vx, vy);
+    row
+}
+
 // The row of a slot and a curve number widened by a speed.
 pub fn widen_row(table: &mut [i16], slot: usize, number: usize, vx: i16, vy: i16)
     requires { ⌜ (length (now table) ≡ tableWords) × (slot < slots) × (number < cells) ⌝ }
     ensures { λ u. ⌜ now (table .exit) ≡ withSpeed (now (table .entry)) slot number vx vy ⌝ }
 {
-    let row = Row::read(table, slot, number).widen(vx, vy);
+    let row = widen_copy(Row::read(table, slot, number), vx, vy);
     row.write(table, slot, number);
 }
 

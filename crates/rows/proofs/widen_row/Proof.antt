@@ -14,8 +14,8 @@ use Rattle.rows.proofs.widen_row.Tie as tie
 read-requires : tie.Need-read-requires
 read-requires c κs = search needs
 
-widen-requires : tie.Need-widen-requires
-widen-requires c κs = search needs
+widen-copy-requires : tie.Need-widen-copy-requires
+widen-copy-requires c κs = search needs
 
 write-requires : tie.Need-write-requires
 write-requires c κs = search needs
@@ -29,9 +29,9 @@ returns c =
     let d = w .before .before in
     let r = d .before in
     let e = r .before .before in
-    let p = tested₂ w16 (widened (r .read .result)) (d .widen .result) (e .args .vx) (e .args .vy) (d .widen .ensures) (e .fits .vx .sfits) (e .fits .vy .sfits) in
+    let p = tested₂ w16 (widened (r .read .result)) (d .widen-copy .result) (e .args .vx) (e .args .vy) (d .widen-copy .ensures) (e .fits .vx .sfits) (e .fits .vy .sfits) in
     w .write .ensures
     ∙ ap (withRow (now (e .args .table)) (e .args .slot) (e .args .number)) (p ∙ ap (λ (x : Row). widened x (e .args .vx) (e .args .vy)) (r .read .ensures))
 
 pub widen-row-spec : {M : Type 1} → statement M
-widen-row-spec = tie.close (tie.spec read-requires widen-requires write-requires same-length returns)
+widen-row-spec = tie.close (tie.spec read-requires widen-copy-requires write-requires same-length returns)
