@@ -1,0 +1,46 @@
+-- What an exported call gives back and leaves: document 01's number, value and counts of the answer in its definition, and that definition's words.
+-- Assumes nothing.
+use mathlib.Core.Path.{_≡_}
+use mathlib.Core.List.{List}
+use Prim.Native.Nat.{ℕ}
+use lib.IntN.{ℤ}
+use Rattle.grid.specs.declared.Rect.{Rect}
+use Rattle.grid.specs.declared.Report.{Report}
+use Rattle.ledger.specs.Answers.{numberOf, valueOf, countsOf}
+use Rattle.ledger.specs.declared.Answer.{Answer}
+use Rattle.engine.specs.Index.{Outcome, AskOutcome}
+use Rattle.capi.specs.declared.Reply.{Reply}
+
+-- an answer's numbers
+abbrev pub replyOf : Answer → Reply
+replyOf answer =
+    let counts = countsOf answer in
+    record {
+      number = numberOf answer;
+      value = valueOf answer;
+      cells = counts .cells;
+      useful = counts .useful;
+      rounds = counts .rounds;
+    }
+
+-- those of an answer that is no accepted ask's
+abbrev pub plain : ℕ → ℕ → Reply
+plain number value = record { number = number; value = value; cells = 0; useful = 0; rounds = 0 }
+
+-- the numbers of a report, and of a rectangle: low corner, high corner
+abbrev pub reportOf : ℤ → ℤ → ℤ → ℤ → ℤ → ℤ → Report
+reportOf id t x y vx vy = record { id = id; t = t; x = x; y = y; vx = vx; vy = vy }
+
+abbrev pub rectOf : ℤ → ℤ → ℤ → ℤ → Rect
+rectOf lowX lowY highX highY =
+    record { x = record { low = lowX; high = highX }; y = record { low = lowY; high = highY } }
+
+-- a call's reply and words at exit are those of its definition
+pub record Replies (o : Outcome) (r : Reply) (s t : List ℤ) : Type 0 where
+  pub reply-is : r ≡ replyOf (o .answer)
+  pub store-is : s ≡ o .store
+  pub table-is : t ≡ o .table
+
+pub record RepliesList (o : AskOutcome) (r : Reply) (list : List ℕ) : Type 0 where
+  pub reply-is : r ≡ replyOf (o .answer)
+  pub list-is : list ≡ o .list

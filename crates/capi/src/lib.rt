@@ -1,0 +1,181 @@
+// The index for programs in C and Rust: the six calls over pointers and lengths, with any numbers and any buffers, and the soundness test alone.
+// Each call gives back the number, the value and the counts that document 01 has for its answer, and leaves the words that its definition says.
+ghost use mathlib.Core.Path.{_≡_};
+ghost use Rattle.store.specs.Soundness.{isSound};
+ghost use Rattle.engine.specs.Index.{openOut, clockOut, addOut, reportOut, dropOut, askOut};
+ghost use Rattle.capi.specs.Replies.{replyOf, plain, reportOf, rectOf, Replies, RepliesList};
+use grid::Range;
+use grid::Rect;
+use grid::Report;
+use ledger::Answer;
+
+// What a call gives back: the number of a refusal (0: accepted), the value, and an accepted ask's cells read, useful cells and rounds.
+#[repr(C)]
+pub struct Reply {
+    pub number: usize,
+    pub value: usize,
+    pub cells: usize,
+    pub useful: usize,
+    pub rounds: usize,
+}
+
+// An answer without counts.
+fn plain(number: usize, value: usize) -> Reply
+    ensures { λ r. ⌜ r ≡ plain number value ⌝ }
+{
+    Reply {
+        number: number,
+        value: value,
+        cells: 0,
+        useful: 0,
+        rounds: 0,
+    }
+}
+
+fn reply_of(answer: Answer) -> Reply
+    ensures { λ r. ⌜ r ≡ replyOf answer ⌝ }
+{
+    match answer {
+        Answer::Accepted(held) => plain(0, held),
+        Answer::Listed(listed, cells, useful, rounds) => Reply {
+            number: 0,
+            value: listed,
+            cells: cells,
+            useful: useful,
+            rounds: rounds,
+        },
+        Answer::WrongLength => plain(1, 0),
+        Answer::Unsound => plain(2, 0),
+        Answer::BadTime => plain(3, 0),
+        Answer::BadNumber => plain(4, 0),
+        Answer::AlreadyHeld => plain(5, 0),
+        Answer::NotHeld => plain(6, 0),
+        Answer::Full => plain(7, 0),
+        Answer::ListTooShort(needed) => plain(8, needed),
+    }
+}
+
+fn report_of(id: i32, t: i32, x: i32, y: i32, vx: i32, vy: i32) -> Report
+    ensures { λ r. ⌜ r ≡ reportOf id t x y vx vy ⌝ }
+{
+    Report {
+        id: id,
+        t: t,
+        x: x,
+        y: y,
+        vx: vx,
+        vy: vy,
+    }
+}
+
+fn wide(z: i32) -> i64
+    ensures { λ r. ⌜ r ≡ z ⌝ }
+{
+    z as i64
+}
+
+fn rect_of(low_x: i32, low_y: i32, high_x: i32, high_y: i32) -> Rect
+    ensures { λ r. ⌜ r ≡ rectOf «low_x» «low_y» «high_x» «high_y» ⌝ }
+{
+    Rect {
+        x: Range {
+            low: wide(low_x),
+            high: wide(high_x),
+        },
+        y: Range {
+            low: wide(low_y),
+            high: wide(high_y),
+        },
+    }
+}
+
+// Opens the index at time t, whatever the buffers held.
+#[no_mangle]
+pub extern "C" fn float_index_open(store: &mut [i32], table: &mut [i16], t: i32) -> Reply
+    ensures { λ r. ⌜ Replies (openOut (now (store .entry)) (now (table .entry)) t) r (now (store .exit)) (now (table .exit)) ⌝ }
+{
+    reply_of(engine::open(store, table, t))
+}
+
+// The clock goes to time t.
+#[no_mangle]
+pub extern "C" fn float_index_clock(store: &mut [i32], table: &mut [i16], t: i32) -> Reply
+    ensures { λ r. ⌜ Replies (clockOut (now (store .entry)) (now (table .entry)) t) r (now (store .exit)) (now (table .exit)) ⌝ }
+{
+    reply_of(engine::clock(store, table, t))
+}
+
+// A float that was not held sends its first report.
+#[no_mangle]
+pub extern "C" fn float_index_add(
+    store: &mut [i32],
+    table: &mut [i16],
+    id: i32,
+    t: i32,
+    x: i32,
+    y: i32,
+    vx: i32,
+    vy: i32,
+) -> Reply
+    ensures { λ r. ⌜ Replies (addOut (now (store .entry)) (now (table .entry)) (reportOf id t x y vx vy)) r (now (store .exit)) (now (table .exit)) ⌝ }
+{
+    reply_of(engine::add(store, table, report_of(id, t, x, y, vx, vy)))
+}
+
+// A held float sends a new report.
+#[no_mangle]
+pub extern "C" fn float_index_report(
+    store: &mut [i32],
+    table: &mut [i16],
+    id: i32,
+    t: i32,
+    x: i32,
+    y: i32,
+    vx: i32,
+    vy: i32,
+) -> Reply
+    ensures { λ r. ⌜ Replies (reportOut (now (store .entry)) (now (table .entry)) (reportOf id t x y vx vy)) r (now (store .exit)) (now (table .exit)) ⌝ }
+{
+    reply_of(engine::report(store, table, report_of(id, t, x, y, vx, vy)))
+}
+
+// A held float is taken out at time t.
+#[no_mangle]
+pub extern "C" fn float_index_drop(store: &mut [i32], table: &mut [i16], id: i32, t: i32) -> Reply
+    ensures { λ r. ⌜ Replies (dropOut (now (store .entry)) (now (table .entry)) id t) r (now (store .exit)) (now (table .exit)) ⌝ }
+{
+    reply_of(engine::drop(store, table, id, t))
+}
+
+// The floats predicted inside a rectangle at the asked time, by a method's choice of cells. The ids are written in front of the list.
+#[no_mangle]
+pub extern "C" fn float_index_ask(
+    store: &[i32],
+    table: &[i16],
+    list: &mut [u16],
+    method: i32,
+    asked: i32,
+    low_x: i32,
+    low_y: i32,
+    high_x: i32,
+    high_y: i32,
+) -> Reply
+    ensures { λ r. ⌜ RepliesList (askOut (now (store .entry)) (now (table .entry)) method asked (rectOf «low_x» «low_y» «high_x» «high_y») (now (list .entry))) r (now (list .exit)) ⌝ }
+{
+    reply_of(engine::ask(
+        store,
+        table,
+        list,
+        method,
+        asked,
+        rect_of(low_x, low_y, high_x, high_y),
+    ))
+}
+
+// Whether a store and a table have their lengths and are sound, so that no call refuses them with 1 or 2.
+#[no_mangle]
+pub extern "C" fn float_index_is_sound(store: &[i32], table: &[i16]) -> bool
+    ensures { λ r. ⌜ r ≡ isSound (now (store .entry)) (now (table .entry)) ⌝ }
+{
+    store::soundness::is_sound(store, table)
+}
