@@ -65,11 +65,23 @@ pub enum Answer {
 }
 
 /// A held report with the phase and cell in which it is placed.
-#[derive(Clone, Copy, Debug)]
-struct Held {
-    report: Sighting,
-    phase: i64,
-    cell: usize,
+#[derive(Clone, Copy, Debug, PartialEq, Eq)]
+pub struct Held {
+    pub report: Sighting,
+    pub phase: i64,
+    pub cell: usize,
+}
+
+impl Held {
+    /// The report placed in a phase.
+    pub fn placed(report: Sighting, phase: i64) -> Held {
+        let cell = cell(report.position(PHASE * phase));
+        Held {
+            report,
+            phase,
+            cell,
+        }
+    }
 }
 
 pub struct Ledger {
@@ -82,12 +94,13 @@ pub struct Ledger {
     placements: Vec<(i64, usize, [i64; 2])>,
 }
 
-fn slot(phase: i64) -> usize {
+/// The remainder of a phase by 3.
+pub fn slot(phase: i64) -> usize {
     (phase % 3) as usize
 }
 
 /// The live phases when c is the current one, oldest first.
-fn live(c: i64) -> std::ops::RangeInclusive<i64> {
+pub fn live(c: i64) -> std::ops::RangeInclusive<i64> {
     (c - 2).max(0)..=c
 }
 
@@ -129,8 +142,29 @@ impl Ledger {
         }
     }
 
+    /// A ledger taken up in the middle of a list: its time, held reports and,
+    /// for each remainder of a phase by 3, the rows of the cells.
+    pub fn kept(now: i64, held: Vec<Held>, rows: [Vec<Row>; 3], wrong: Wrong) -> Ledger {
+        Ledger {
+            now,
+            held: held.into_iter().map(|h| (h.report.id, h)).collect(),
+            rows,
+            ..Ledger::new(wrong)
+        }
+    }
+
     pub fn now(&self) -> i64 {
         self.now
+    }
+
+    /// The held reports with their places, ids rising.
+    pub fn held(&self) -> impl ExactSizeIterator<Item = &Held> {
+        self.held.values()
+    }
+
+    /// The rows of the phases with this remainder by 3.
+    pub fn rows(&self, slot: usize) -> &[Row] {
+        &self.rows[slot]
     }
 
     /// The held reports, ids rising.
@@ -276,11 +310,7 @@ impl Ledger {
     /// Holds the report and places it in the current phase.
     fn place(&mut self, report: &Sighting) {
         let phase = self.now / PHASE;
-        let held = Held {
-            report: *report,
-            phase,
-            cell: cell(report.position(PHASE * phase)),
-        };
+        let held = Held::placed(*report, phase);
         self.held.insert(report.id, held);
         let row = &mut self.rows[slot(phase)][held.cell];
         *row = row.join(Row::one(report.speed));

@@ -1,0 +1,259 @@
+//! One buffer tried: lent to a call, and the reply and all three buffers
+//! afterwards compared with what document 01 says.
+
+use crate::sound::Sound;
+use crate::words::{read, write, Words, STORE_WORDS, TABLE_NUMBERS};
+use float_index::{Reply, Report};
+use plain_ledger::ledger::{Answer, Call, Ledger, Sighting};
+use plain_ledger::methods::Wrong;
+
+/// The rules that the index is compared with: document 01's, or wrong ones.
+#[derive(Clone, Copy)]
+pub struct Rules {
+    pub sound: Sound,
+    pub wrong: Wrong,
+}
+
+/// What differed.
+#[derive(Debug)]
+pub struct Difference(pub String);
+
+/// Numbers lent with a margin on either side that no call may touch.
+struct Lent<T> {
+    all: Vec<T>,
+    margin: T,
+}
+
+const MARGIN: usize = 8;
+
+impl<T: Copy + PartialEq> Lent<T> {
+    fn new(margin: T) -> Lent<T> {
+        Lent {
+            all: Vec::new(),
+            margin,
+        }
+    }
+
+    fn fill(&mut self, numbers: &[T]) {
+        self.all.clear();
+        self.all.extend([self.margin; MARGIN]);
+        self.all.extend_from_slice(numbers);
+        self.all.extend([self.margin; MARGIN]);
+    }
+
+    fn lend(&mut self) -> &mut [T] {
+        let end = self.all.len() - MARGIN;
+        &mut self.all[MARGIN..end]
+    }
+
+    /// Whether it holds these numbers and its margins are as they were.
+    fn holds(&self, numbers: &[T]) -> bool {
+        let (front, rest) = self.all.split_at(MARGIN);
+        let (inside, back) = rest.split_at(rest.len() - MARGIN);
+        inside == numbers && front.iter().chain(back).all(|n| *n == self.margin)
+    }
+}
+
+/// What a call should give back and leave.
+struct Expected {
+    reply: Reply,
+    /// The store and the table, where they change.
+    words: Option<Words>,
+    /// The ids in front of the list, where it changes.
+    ids: Vec<u16>,
+}
+
+pub struct Trial {
+    rules: Rules,
+    store: Lent<i32>,
+    table: Lent<i16>,
+    list: Lent<u16>,
+    /// Buffers tried so far, by the number that the call on them gave.
+    pub given: [usize; 9],
+}
+
+impl Trial {
+    pub fn new(rules: Rules) -> Trial {
+        Trial {
+            rules,
+            store: Lent::new(-77),
+            table: Lent::new(-77),
+            list: Lent::new(777),
+            given: [0; 9],
+        }
+    }
+
+    pub fn tried(&self) -> usize {
+        self.given.iter().sum()
+    }
+
+    pub fn rules(&self) -> Rules {
+        self.rules
+    }
+
+    /// Buffers of any length and content, with a list of so many ids.
+    pub fn call(
+        &mut self,
+        store: &[i32],
+        table: &[i16],
+        call: &Call,
+        list: usize,
+    ) -> Result<(), Difference> {
+        let long = store.len() == STORE_WORDS && table.len() == TABLE_NUMBERS;
+        let sound = long && self.rules.sound.holds(store, table);
+        if float_index::is_sound(store, table) != sound {
+            return Err(Difference(format!("soundness, expected {sound}")));
+        }
+        let open = matches!(call, Call::Open { .. });
+        let expected = if !long {
+            refused(1, 0)
+        } else if !sound && !open {
+            refused(2, 0)
+        } else {
+            let wrong = self.rules.wrong;
+            let mut ledger = match open {
+                true => Ledger::new(wrong),
+                false => read(store, table, wrong),
+            };
+            expected(&mut ledger, call, list)
+        };
+        self.compare(store, table, call, list, &expected)
+    }
+
+    /// The next call of a list, whose ledger runs along. Gives the words after.
+    pub fn next(
+        &mut self,
+        ledger: &mut Ledger,
+        before: Words,
+        call: &Call,
+        list: usize,
+    ) -> Result<Words, Difference> {
+        if !self.rules.sound.holds(&before.store, &before.table) {
+            return Err(Difference("a list of calls led to unsound words".into()));
+        }
+        let expected = expected(ledger, call, list);
+        self.compare(&before.store, &before.table, call, list, &expected)?;
+        Ok(expected.words.unwrap_or(before))
+    }
+
+    fn compare(
+        &mut self,
+        store: &[i32],
+        table: &[i16],
+        call: &Call,
+        list: usize,
+        expected: &Expected,
+    ) -> Result<(), Difference> {
+        let mut ids: Vec<u16> = (0..list).map(|i| (31 * i + 5) as u16).collect();
+        self.store.fill(store);
+        self.table.fill(table);
+        self.list.fill(&ids);
+        let reply = run(call, self.store.lend(), self.table.lend(), self.list.lend());
+        ids[..expected.ids.len()].copy_from_slice(&expected.ids);
+        let (store, table) = match &expected.words {
+            Some(words) => (&words.store[..], &words.table[..]),
+            None => (store, table),
+        };
+        self.given[reply.number.min(8)] += 1;
+        let what = if reply != expected.reply {
+            format!("reply {reply:?}, expected {:?}", expected.reply)
+        } else if !self.store.holds(store) {
+            "the store after the call".into()
+        } else if !self.table.holds(table) {
+            "the table after the call".into()
+        } else if !self.list.holds(&ids) {
+            "the list after the call".into()
+        } else {
+            return Ok(());
+        };
+        Err(Difference(format!(
+            "{what}; {call:?} with a list of {list}"
+        )))
+    }
+}
+
+fn refused(number: usize, value: usize) -> Expected {
+    let reply = Reply {
+        number,
+        value,
+        cells: 0,
+        useful: 0,
+        rounds: 0,
+    };
+    Expected {
+        reply,
+        words: None,
+        ids: Vec::new(),
+    }
+}
+
+/// What the ledger says of a call on sound buffers.
+fn expected(ledger: &mut Ledger, call: &Call, list: usize) -> Expected {
+    match ledger.call(call, list) {
+        Answer::Refused(number, value) => refused(number as usize, value as usize),
+        Answer::Accepted(held) => Expected {
+            words: Some(write(ledger)),
+            ..refused(0, held as usize)
+        },
+        Answer::Listed {
+            ids,
+            cells,
+            useful,
+            rounds,
+        } => Expected {
+            reply: Reply {
+                number: 0,
+                value: ids.len(),
+                cells,
+                useful,
+                rounds,
+            },
+            words: None,
+            ids: ids.iter().map(|id| *id as u16).collect(),
+        },
+    }
+}
+
+/// A number of a call, which the generator keeps in 32 bits.
+fn small(number: i64) -> i32 {
+    i32::try_from(number).expect("a call's numbers fit 32 bits")
+}
+
+fn report(s: &Sighting) -> Report {
+    Report {
+        id: small(s.id),
+        t: small(s.t),
+        x: small(s.at[0]),
+        y: small(s.at[1]),
+        vx: small(s.speed[0]),
+        vy: small(s.speed[1]),
+    }
+}
+
+/// Makes the call of the index.
+fn run(call: &Call, store: &mut [i32], table: &mut [i16], list: &mut [u16]) -> Reply {
+    match call {
+        Call::Open { t } => float_index::open(store, table, small(*t)),
+        Call::Clock { t } => float_index::clock(store, table, small(*t)),
+        Call::Add(s) => float_index::add(store, table, report(s)),
+        Call::Report(s) => float_index::report(store, table, report(s)),
+        Call::Drop { id, t } => float_index::drop(store, table, small(*id), small(*t)),
+        Call::Ask(ask) => {
+            let [low, high] = [ask.rectangle.low, ask.rectangle.high];
+            let rectangle = float_index::Rectangle {
+                low_x: small(low[0]),
+                low_y: small(low[1]),
+                high_x: small(high[0]),
+                high_y: small(high[1]),
+            };
+            float_index::ask(
+                store,
+                table,
+                list,
+                small(ask.method),
+                small(ask.time),
+                rectangle,
+            )
+        }
+    }
+}
