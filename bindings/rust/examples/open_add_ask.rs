@@ -4,10 +4,7 @@
 use float_index::{method, Rectangle, Reply, Report, MOST_HELD, STORE_WORDS, TABLE_NUMBERS};
 
 fn print_change(call: &str, reply: Reply) {
-    println!(
-        "{call}: number {}, value {}",
-        reply.number, reply.value
-    );
+    println!("{call}: number {}, value {}", reply.number, reply.value);
 }
 
 fn print_ask(call: &str, reply: Reply, list: &[u16]) {

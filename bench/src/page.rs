@@ -1,0 +1,149 @@
+//! The page of results.
+
+use crate::measure::Times;
+use std::fmt::Write;
+
+/// The goals: how many times the twin's time a call may take, and how many
+/// times one pass the soundness test.
+const OVER_TWIN: f64 = 1.2;
+const OVER_PASS: f64 = 3.0;
+
+/// The call that the second goal is about.
+pub const SOUNDNESS: &str = "soundness test";
+
+const HEAD: &str = "\
+# Benchmarks
+
+Written by `bench/run`, which builds the proved library and measures it in one run beside:
+
+- (a) a plain Rust twin (bench/src/twin): the same buffers, the same checks, the same ways of doing things. It
+  must give the same replies, words and lists, or the run fails. At a phase change it sorts the floats to move
+  and puts them in as one run;
+- (b) one pass over the 53 KB of lent memory, the fastest that looks at each number once: their sum in their own
+  width. The exact sum, in 64 bits, is a slower pass; its time is named too, and the goal goes by the faster one;
+- (c) for asks, a linear scan of the records without any check, its ids sorted.
+
+Fleets: floats anywhere in the sea, 49 in 50 with speeds up to 30 cm/s and the others up to 500 cm/s, reported
+evenly at the starts of the three live phases. Rectangles lie in the middle of the sea and are asked for an hour
+ahead. A phase change with all floats to move has them all in the phase that dies. Times are microseconds. All
+are measured in turn, on fresh copies of the buffers, so that a busy machine disturbs them alike; what counts are
+the ratios. A ratio in bold misses its goal.
+";
+
+pub fn page(all: &[Times], runs: usize) -> String {
+    let mut page = String::from(HEAD);
+    let cores = std::thread::available_parallelism().map_or(1, usize::from);
+    let machine = format!(
+        "{} on {}, {cores} cores",
+        std::env::consts::ARCH,
+        std::env::consts::OS
+    );
+    let _ = writeln!(page, "\nMedians of {runs} runs. Machine: {machine}.");
+    if let Some(Times {
+        pass, exact_pass, ..
+    }) = all.first()
+    {
+        let _ = writeln!(
+            page,
+            "(b) takes {pass:.1}, the exact sum {exact_pass:.1}.\n"
+        );
+    }
+    page += "| call | floats | index | (a) twin | index / (a) | index / (b) | (c) scan | index / (c) |\n";
+    page += "|---|---:|---:|---:|---:|---:|---:|---:|\n";
+    all.iter().for_each(|times| page += &line(times));
+    page += "\n## Goals\n\n";
+    page += &goal_twin(all);
+    page += &goal_pass(all);
+    page += &goal_growth(all);
+    page
+}
+
+/// A ratio, in bold where it is past its goal.
+fn ratio(ratio: f64, goal: f64, places: usize) -> String {
+    if ratio > goal {
+        format!("**{ratio:.places$}**")
+    } else {
+        format!("{ratio:.places$}")
+    }
+}
+
+fn goal_for_pass(t: &Times) -> f64 {
+    match t.call.as_str() {
+        SOUNDNESS => OVER_PASS,
+        _ => f64::INFINITY,
+    }
+}
+
+fn line(t: &Times) -> String {
+    let over_twin = ratio(t.index / t.twin, OVER_TWIN, 2);
+    let over_pass = ratio(t.index / t.pass, goal_for_pass(t), 1);
+    let scan = match t.scan {
+        Some(scan) => format!("{scan:.2} | {:.0}", t.index / scan),
+        None => "|".into(),
+    };
+    let (call, floats, index, twin) = (&t.call, t.floats, t.index, t.twin);
+    format!("| {call} | {floats} | {index:.1} | {twin:.1} | {over_twin} | {over_pass} | {scan} |\n")
+}
+
+/// A goal's line: met, or missed, with the worst case.
+fn goal(goal: &str, mut missed: Vec<(f64, String)>) -> String {
+    missed.sort_by(|a, b| b.0.total_cmp(&a.0));
+    match missed.first() {
+        None => format!("- {goal}: met.\n"),
+        Some((ratio, call)) => {
+            let rows = missed.len();
+            format!("- {goal}: missed, rows: {rows}. The worst is {call}: {ratio:.2}.\n")
+        }
+    }
+}
+
+fn name(t: &Times) -> String {
+    format!("{} with {} floats", t.call, t.floats)
+}
+
+fn goal_twin(all: &[Times]) -> String {
+    let ratios = all.iter().map(|t| (t.index / t.twin, name(t)));
+    let missed = ratios.filter(|(ratio, _)| *ratio > OVER_TWIN);
+    goal("At most 1.2 times (a) in every row", missed.collect())
+}
+
+fn goal_pass(all: &[Times]) -> String {
+    let ratios = all
+        .iter()
+        .map(|t| (t.index / t.pass, goal_for_pass(t), name(t)));
+    let missed = ratios.filter(|(ratio, goal, _)| ratio > goal);
+    let missed = missed.map(|(ratio, _, name)| (ratio, name));
+    let line = goal("Soundness test at most 3 times (b)", missed.collect());
+    let tests = all.iter().filter(|t| t.call == SOUNDNESS);
+    let exact: Vec<String> = tests
+        .map(|t| {
+            format!(
+                "{:.1} times with {} floats",
+                t.index / t.exact_pass,
+                t.floats
+            )
+        })
+        .collect();
+    format!(
+        "{line}  Against the exact sum it takes {} times.\n",
+        exact.join(", ")
+    )
+}
+
+/// From one fleet to the next a call may take as many times longer as there
+/// are more floats.
+fn goal_growth(all: &[Times]) -> String {
+    let mut missed = Vec::new();
+    for pair in all.windows(2).filter(|pair| pair[0].call == pair[1].call) {
+        let (few, many) = (&pair[0], &pair[1]);
+        let floats = many.floats as f64 / few.floats as f64;
+        let times = many.index / few.index;
+        if times > floats {
+            missed.push((
+                times,
+                format!("{} for {floats:.2} times the floats", name(many)),
+            ));
+        }
+    }
+    goal("No call's time grows faster than the floats held", missed)
+}

@@ -1,0 +1,59 @@
+//! Columns, cells, their curve numbers, and where a float is.
+
+pub const SIDE: usize = 32;
+pub const CELLS: usize = SIDE * SIDE;
+/// Width and height of a cell.
+pub const WIDTH: i64 = 262_144;
+/// The greatest coordinate in the sea.
+pub const SEA: i32 = 8_388_607;
+
+const fn number(side: usize, x: usize, y: usize) -> usize {
+    if side == 1 {
+        return 0;
+    }
+    let s = side / 2;
+    let (u, v) = (x % s, y % s);
+    match (x / s, y / s) {
+        (0, 0) => number(s, v, u),
+        (0, _) => s * s + number(s, u, v),
+        (_, 1) => 2 * s * s + number(s, u, v),
+        _ => 3 * s * s + number(s, s - 1 - v, s - 1 - u),
+    }
+}
+
+/// Curve numbers, row by row.
+static CURVE: [u16; CELLS] = {
+    let mut table = [0; CELLS];
+    let mut cell = 0;
+    while cell < CELLS {
+        table[cell] = number(SIDE, cell % SIDE, cell / SIDE) as u16;
+        cell += 1;
+    }
+    table
+};
+
+/// The curve number of a cell.
+pub fn curve_number(column: usize, row: usize) -> usize {
+    usize::from(CURVE[row * SIDE + column])
+}
+
+/// The column of an x, or the row of a y; the edge cells reach outward.
+pub fn column(x: i64) -> usize {
+    x.div_euclid(WIDTH).clamp(0, SIDE as i64 - 1) as usize
+}
+
+/// From low to high along one axis, both included.
+#[derive(Clone, Copy)]
+pub struct Range {
+    pub low: i64,
+    pub high: i64,
+}
+
+impl Range {
+    pub fn holds(&self, x: i64) -> bool {
+        self.low <= x && x <= self.high
+    }
+}
+
+/// A rectangle by its axes.
+pub type Rect = [Range; 2];
