@@ -209,8 +209,7 @@ fn ask_sound(
     if list.len() < sum.value {
         return plain(8, sum.value);
     }
-    let ids = (0..=u16::MAX).filter(|id| found[usize::from(*id)] != 0);
-    list.iter_mut().zip(ids).for_each(|(place, id)| *place = id);
+    store::write_rising(&found, list);
     sum
 }
 

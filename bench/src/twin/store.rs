@@ -77,6 +77,7 @@ fn is_sound_store(store: &[i32]) -> bool {
         && unused.as_flattened().iter().all(|w| *w == 0)
 }
 
+#[inline(never)]
 pub fn is_sound(store: &[i32], table: &[i16]) -> bool {
     if store.len() != STORE_WORDS || table.len() != rows::TABLE_NUMBERS {
         return false;
@@ -207,6 +208,17 @@ pub fn read_cells(
         listed,
         cells,
         useful,
+    }
+}
+
+/// The marked ids by rising number, in front of a list that has room for them.
+pub fn write_rising(found: &[u8; 65_536], list: &mut [u16]) {
+    let mut n = 0;
+    for (id, mark) in found.iter().enumerate() {
+        if *mark != 0 {
+            list[n] = id as u16;
+            n += 1;
+        }
     }
 }
 
