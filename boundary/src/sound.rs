@@ -1,6 +1,6 @@
-//! Whether a store and a table are sound, written from document 01 alone, one
-//! clause at a time. A clause can be left out, to see whether the buffers tried
-//! would show it.
+//! Whether a store and a table are sound: document 01's sentence "Sound means",
+//! one clause at a time, with no code of the index in it. A clause can be left
+//! out, to see whether the buffers tried would show it.
 
 use crate::words::{curve_number, RECORD, STORE_WORDS};
 use plain_ledger::grid::{cell, CELLS, SEA};
