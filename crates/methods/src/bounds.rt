@@ -4,6 +4,7 @@ ghost use mathlib.Core.List.{map};
 ghost use Prim.Native.Nat.{_<_};
 ghost use lib.ListN.{length};
 ghost use Rattle.grid.specs.Units.{side};
+ghost use Rattle.grid.specs.Curve.{IsCurve};
 ghost use Rattle.grid.specs.Places.{OnGrid};
 ghost use Rattle.rows.specs.Row.{boundsOf};
 ghost use Rattle.rows.specs.Phases.{slots};
@@ -16,17 +17,17 @@ use crate::Block;
 use grid::Cell;
 use rows::Row;
 
-// The row of a cell.
-pub fn row_of_cell(table: &[i16], slot: usize, c: Cell) -> Row
-    requires { ⌜ (length (now table) ≡ tableWords) × (slot < slots) × OnGrid c ⌝ }
+// The row of a cell. `numbers` is the grid's table of curve numbers, here and below.
+pub fn row_of_cell(table: &[i16], slot: usize, c: Cell, numbers: &[u16; 1024]) -> Row
+    requires { ⌜ (length (now table) ≡ tableWords) × (slot < slots) × OnGrid c × IsCurve (now numbers) ⌝ }
     ensures { λ r. ⌜ r ≡ rowsOfSlot (now (table .entry)) slot c ⌝ }
 {
-    Row::read(table, slot, grid::number_of_cell(c))
+    Row::read(table, slot, grid::number_in(numbers, c))
 }
 
 // The bounds of a block's cells of one row.
-fn row_bounds(table: &[i16], slot: usize, b: Block, row: usize) -> Row
-    requires { ⌜ (length (now table) ≡ tableWords) × (slot < slots) × BlockOnGrid b × (row < side) ⌝ }
+fn row_bounds(table: &[i16], slot: usize, b: Block, row: usize, numbers: &[u16; 1024]) -> Row
+    requires { ⌜ (length (now table) ≡ tableWords) × (slot < slots) × BlockOnGrid b × (row < side) × IsCurve (now numbers) ⌝ }
     ensures { λ r. ⌜ r ≡ boundsOf (map (rowsOfSlot (now (table .entry)) slot) (cellsOfRow row (b .«first_column») (columnsOf b))) ⌝ }
 {
     let mut bounds = Row::empty();
@@ -40,6 +41,7 @@ fn row_bounds(table: &[i16], slot: usize, b: Block, row: usize) -> Row
                 column: column,
                 row: row,
             },
+            numbers,
         ).join(bounds);
     }
     bounds
@@ -50,11 +52,12 @@ pub fn block_bounds(table: &[i16], slot: usize, b: Block) -> Row
     requires { ⌜ (length (now table) ≡ tableWords) × (slot < slots) × BlockOnGrid b ⌝ }
     ensures { λ r. ⌜ r ≡ boundsIn (rowsOfSlot (now (table .entry)) slot) b ⌝ }
 {
+    let numbers = grid::curve_numbers();
     let mut bounds = Row::empty();
     let mut row = b.last_row + 1;
     while b.first_row < row {
         row -= 1;
-        bounds = row_bounds(table, slot, b, row).join(bounds);
+        bounds = row_bounds(table, slot, b, row, &numbers).join(bounds);
     }
     bounds
 }

@@ -3,6 +3,7 @@ ghost use mathlib.Core.Path.{_≡_};
 ghost use mathlib.Core.List.{[], _∷_};
 ghost use Prim.Native.Nat.{_<_};
 ghost use lib.ListN.{length};
+ghost use Rattle.grid.specs.Curve.{IsCurve};
 ghost use Rattle.grid.specs.Units.{side, cells};
 ghost use Rattle.grid.specs.Places.{OnGrid};
 ghost use Rattle.methods.specs.Reach.{columnsOf, cellsOfRow, cellsOf};
@@ -28,17 +29,18 @@ pub fn clear(marks: &mut [u8])
     }
 }
 
-fn mark_cell(c: Cell, marks: &mut [u8])
-    requires { ⌜ OnGrid c × (length (now marks) ≡ cells) ⌝ }
+// `numbers` is the grid's table of curve numbers, here and below.
+fn mark_cell(c: Cell, marks: &mut [u8], numbers: &[u16; 1024])
+    requires { ⌜ OnGrid c × (length (now marks) ≡ cells) × IsCurve (now numbers) ⌝ }
     ensures { λ u. ⌜ now (marks .exit) ≡ withCells (now (marks .entry)) (c ∷ []) ⌝ }
 {
-    let n = grid::number_of_cell(c);
+    let n = grid::number_in(numbers, c);
     marks[n] = 1;
 }
 
 // Marks a block's cells of one row, and counts them.
-fn mark_row(b: Block, row: usize, marks: &mut [u8]) -> usize
-    requires { ⌜ BlockOnGrid b × (row < side) × (length (now marks) ≡ cells) ⌝ }
+fn mark_row(b: Block, row: usize, marks: &mut [u8], numbers: &[u16; 1024]) -> usize
+    requires { ⌜ BlockOnGrid b × (row < side) × (length (now marks) ≡ cells) × IsCurve (now numbers) ⌝ }
     ensures { λ r. ⌜ Marked (now (marks .entry)) (cellsOfRow row (b .«first_column») (columnsOf b)) (now (marks .exit)) r ⌝ }
 {
     let mut column = b.first_column;
@@ -50,6 +52,7 @@ fn mark_row(b: Block, row: usize, marks: &mut [u8]) -> usize
                 row: row,
             },
             marks,
+            numbers,
         );
         size += 1;
         column += 1;
@@ -62,21 +65,29 @@ pub fn mark_block(b: Block, marks: &mut [u8]) -> usize
     requires { ⌜ BlockOnGrid b × (length (now marks) ≡ cells) ⌝ }
     ensures { λ r. ⌜ Marked (now (marks .entry)) (cellsOf b) (now (marks .exit)) r ⌝ }
 {
+    let numbers = grid::curve_numbers();
     let mut row = b.first_row;
     let mut size = 0;
     while row < b.last_row + 1 {
-        size += mark_row(b, row, marks);
+        size += mark_row(b, row, marks, &numbers);
         row += 1;
     }
     size
 }
 
 // Whether a cell's row is nonempty and the cell, moved by the row's speeds over d, meets the rectangle.
-pub fn is_reached(table: &[i16], slot: usize, c: Cell, q: Rect, d: i64) -> bool
-    requires { ⌜ IsSlot (now table) slot × IsAsk q d × OnGrid c ⌝ }
+pub fn is_reached(
+    table: &[i16],
+    slot: usize,
+    c: Cell,
+    q: Rect,
+    d: i64,
+    numbers: &[u16; 1024],
+) -> bool
+    requires { ⌜ IsSlot (now table) slot × IsAsk q d × OnGrid c × IsCurve (now numbers) ⌝ }
     ensures { λ r. ⌜ r ≡ isReached (rowsOfSlot (now (table .entry)) slot) q d c ⌝ }
 {
-    let row = row_of_cell(table, slot, c);
+    let row = row_of_cell(table, slot, c, numbers);
     if row.is_empty() {
         return false;
     }
@@ -84,14 +95,22 @@ pub fn is_reached(table: &[i16], slot: usize, c: Cell, q: Rect, d: i64) -> bool
 }
 
 // Marks a cell if it is reached, and counts it.
-fn mark_if_reached(table: &[i16], slot: usize, c: Cell, q: Rect, d: i64, marks: &mut [u8]) -> usize
-    requires { ⌜ IsSlot (now table) slot × IsAsk q d × OnGrid c × (length (now marks) ≡ cells) ⌝ }
+fn mark_if_reached(
+    table: &[i16],
+    slot: usize,
+    c: Cell,
+    q: Rect,
+    d: i64,
+    marks: &mut [u8],
+    numbers: &[u16; 1024],
+) -> usize
+    requires { ⌜ IsSlot (now table) slot × IsAsk q d × OnGrid c × (length (now marks) ≡ cells) × IsCurve (now numbers) ⌝ }
     ensures { λ r. ⌜ Marked (now (marks .entry)) (reached (rowsOfSlot (now (table .entry)) slot) q d (c ∷ [])) (now (marks .exit)) r ⌝ }
 {
-    if !is_reached(table, slot, c, q, d) {
+    if !is_reached(table, slot, c, q, d, numbers) {
         return 0;
     }
-    mark_cell(c, marks);
+    mark_cell(c, marks, numbers);
     1
 }
 
@@ -104,8 +123,9 @@ fn mark_reached_in_row(
     q: Rect,
     d: i64,
     marks: &mut [u8],
+    numbers: &[u16; 1024],
 ) -> usize
-    requires { ⌜ IsSlot (now table) slot × IsAsk q d × BlockOnGrid b × (row < side) × (length (now marks) ≡ cells) ⌝ }
+    requires { ⌜ IsSlot (now table) slot × IsAsk q d × BlockOnGrid b × (row < side) × (length (now marks) ≡ cells) × IsCurve (now numbers) ⌝ }
     ensures { λ r. ⌜ Marked (now (marks .entry)) (reached (rowsOfSlot (now (table .entry)) slot) q d (cellsOfRow row (b .«first_column») (columnsOf b))) (now (marks .exit)) r ⌝ }
 {
     let mut column = b.first_column;
@@ -121,6 +141,7 @@ fn mark_reached_in_row(
             q,
             d,
             marks,
+            numbers,
         );
         column += 1;
     }
@@ -139,10 +160,11 @@ pub fn mark_reached(
     requires { ⌜ IsSlot (now table) slot × IsAsk q d × BlockOnGrid b × (length (now marks) ≡ cells) ⌝ }
     ensures { λ r. ⌜ Marked (now (marks .entry)) (reached (rowsOfSlot (now (table .entry)) slot) q d (cellsOf b)) (now (marks .exit)) r ⌝ }
 {
+    let numbers = grid::curve_numbers();
     let mut row = b.first_row;
     let mut size = 0;
     while row < b.last_row + 1 {
-        size += mark_reached_in_row(table, slot, b, row, q, d, marks);
+        size += mark_reached_in_row(table, slot, b, row, q, d, marks, &numbers);
         row += 1;
     }
     size

@@ -14,13 +14,16 @@ use Rattle.methods.proofs.bounds.block_bounds.Statement.{statement}
 use Rattle.methods.proofs.bounds.block_bounds.Tie as tie
 
 abbrev Inv-loop : tie.InvT-loop
-Inv-loop table slot b bounds₀ row₀ bounds row =
+Inv-loop table slot b numbers bounds₀ row₀ bounds row =
     (row ≤ b .«last_row» + 1)
     × (min (b .«first_row») (b .«last_row» + 1) ≤ row)
     × (bounds ≡ boundsFor (rowsOfSlot table slot) (rowsFrom b row))
 
 abbrev μ-loop : tie.MeasureT-loop
-μ-loop table slot b bounds₀ row₀ bounds row = row
+μ-loop table slot b numbers bounds₀ row₀ bounds row = row
+
+curve-numbers-requires : tie.Need-curve-numbers-requires Inv-loop μ-loop
+curve-numbers-requires c κs = search needs
 
 empty-requires : tie.Need-empty-requires Inv-loop μ-loop
 empty-requires c κs = search needs
@@ -30,7 +33,7 @@ add-row c = omega arith
 
 loop-holds : tie.Need-loop-holds Inv-loop μ-loop
 loop-holds c =
-    let a = c .before .before .args in
+    let a = c .before .before .before .args in
     let rows = rowsOfSlot (now (a .table)) (a .slot) in
     (omega arith, omega arith, c .before .empty .ensures ∙ sym (no-bounds rows) ∙ sym (ap (boundsFor rows) (rows-none (a .b) (a .b .«last_row» + 1) (omega arith))))
 
@@ -39,8 +42,8 @@ sub-row c = omega arith
 
 row-bounds-requires : tie.Need-row-bounds-requires Inv-loop μ-loop
 row-bounds-requires c κs =
-    let a = c .before .before .before .before .before in
-    (a .pre .0, a .pre .1, a .pre .2, omega arith)
+    let a = c .before .before .before .before .before .before .before in
+    (a .pre .0, a .pre .1, a .pre .2, omega arith, c .before .before .before .before .before .before .curve-numbers .ensures)
 
 join-requires : tie.Need-join-requires Inv-loop μ-loop
 join-requires c κs = search needs
@@ -50,8 +53,8 @@ loop-less c = omega arith
 
 loop-again : tie.Need-loop-again Inv-loop μ-loop
 loop-again c =
-    let h = c .before .before .before .before in
-    let a = h .before .before .before .args in (
+    let h = c .before .before .before .before .before in
+    let a = h .before .before .before .before .args in (
       omega arith,
       omega arith,
       bounds-of-rows (rowsOfSlot (now (a .table)) (a .slot)) (a .b) (h .loop .row) (omega arith) (omega arith) (c .join .ensures) (c .before .row-bounds .ensures) (h .loop .inv .2),
@@ -61,7 +64,7 @@ returns : tie.Need-returns Inv-loop μ-loop
 unfolding boundsIn
 returns c =
     let h = c .before .before in
-    let a = h .before .before .before .args in
+    let a = h .before .before .before .before .args in
     h .loop .inv .2
     ∙ ap (boundsFor (rowsOfSlot (now (a .table)) (a .slot))) (rows-whole (a .b) (h .loop .row) (omega arith) (omega arith))
 
@@ -71,6 +74,7 @@ block-bounds-spec =
     (tie.spec
     Inv-loop
     μ-loop
+    curve-numbers-requires
     empty-requires
     add-row
     loop-holds

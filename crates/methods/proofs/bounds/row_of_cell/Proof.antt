@@ -9,18 +9,18 @@ use borrow.Author.Needs.{needs}
 use Rattle.methods.proofs.bounds.row_of_cell.Statement.{statement}
 use Rattle.methods.proofs.bounds.row_of_cell.Tie as tie
 
-number-of-cell-requires : tie.Need-number-of-cell-requires
-number-of-cell-requires c κs = search needs
+number-in-requires : tie.Need-number-in-requires
+number-in-requires c κs = (c .pre .3, c .pre .2)
 
 read-requires : tie.Need-read-requires
 read-requires c κs =
     let a = c .before in
-    (a .pre .0, a .pre .1, omega (arith, c .number-of-cell .ensures, number-below (a .args .c) (a .pre .2)))
+    (a .pre .0, a .pre .1, omega (arith, c .number-in .ensures, number-below (a .args .c) (a .pre .2)))
 
 returns : tie.Need-returns
 returns c =
     let a = c .before .before .args in
-    c .read .ensures ∙ ap (rowAt (now (a .table)) (a .slot)) (c .before .number-of-cell .ensures)
+    c .read .ensures ∙ ap (rowAt (now (a .table)) (a .slot)) (c .before .number-in .ensures)
 
 pub row-of-cell-spec : {M : Type 1} → statement M
-row-of-cell-spec = tie.close (tie.spec number-of-cell-requires read-requires returns)
+row-of-cell-spec = tie.close (tie.spec number-in-requires read-requires returns)

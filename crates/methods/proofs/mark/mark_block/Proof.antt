@@ -15,15 +15,18 @@ use Rattle.methods.proofs.mark.mark_block.Statement.{statement}
 use Rattle.methods.proofs.mark.mark_block.Tie as tie
 
 abbrev Inv-loop : tie.InvT-loop
-Inv-loop b marks₀ row₀ size₀ marks row size = (length marks ≡ cells) × Left marks₀ (cellsOf b) marks size (rowsFrom b row)
+Inv-loop b marks₀ numbers row₀ size₀ marks row size = (length marks ≡ cells) × Left marks₀ (cellsOf b) marks size (rowsFrom b row)
 
 abbrev μ-loop : tie.MeasureT-loop
-μ-loop b marks₀ row₀ size₀ marks row size = b .«last_row» + 1 - row
+μ-loop b marks₀ numbers row₀ size₀ marks row size = b .«last_row» + 1 - row
+
+curve-numbers-requires : tie.Need-curve-numbers-requires Inv-loop μ-loop
+curve-numbers-requires c κs = search needs
 
 loop-holds : tie.Need-loop-holds Inv-loop μ-loop
 unfolding cellsOf
 loop-holds c =
-    let a = c .before in
+    let a = c .before .before in
     (a .pre .1, left-all (now (a .args .marks)) (cellsOf (a .args .b)))
 
 add-if1 : tie.Need-add-if1 Inv-loop μ-loop
@@ -31,14 +34,14 @@ add-if1 c = omega arith
 
 mark-row-requires : tie.Need-mark-row-requires Inv-loop μ-loop
 mark-row-requires c κs =
-    let h = c .before .before .before in
-    let a = h .before .before in
-    (a .pre .0, omega arith, h .loop .inv .0)
+    let h = c .before .before .before .before in
+    let a = h .before .before .before in
+    (a .pre .0, omega arith, h .loop .inv .0, h .before .curve-numbers .ensures)
 
 add-size : tie.Need-add-size Inv-loop μ-loop
 add-size c =
-    let h = c .before .before .before .before .before .before in
-    let a = h .before .before in
+    let h = c .before .before .before .before .before .before .before in
+    let a = h .before .before .before in
     let b = a .args .b in
     let row = h .loop .row in
     omega
@@ -52,8 +55,8 @@ loop-less c = omega arith
 
 loop-again : tie.Need-loop-again Inv-loop μ-loop
 loop-again c =
-    let h = c .before .before .before .before .before .before in
-    let b = h .before .before .args .b in
+    let h = c .before .before .before .before .before .before .before in
+    let b = h .before .before .before .args .b in
     let row = h .loop .row in (
       search needs,
       left-next (h .loop .inv .1) (rowFrom b row (b .«first_column»)) (rowsFrom b (row + 1)) (rows-before b row (omega arith)) (c .before .before .mark-row .ensures),
@@ -65,7 +68,7 @@ same-length c = search needs
 returns : tie.Need-returns Inv-loop μ-loop
 returns c =
     let h = c .before .before in
-    left-none (h .loop .inv .1) (rows-none (h .before .before .args .b) (h .loop .row) (omega arith))
+    left-none (h .loop .inv .1) (rows-none (h .before .before .before .args .b) (h .loop .row) (omega arith))
 
 pub mark-block-spec : {M : Type 1} → statement M
 mark-block-spec =
@@ -73,6 +76,7 @@ mark-block-spec =
     (tie.spec
     Inv-loop
     μ-loop
+    curve-numbers-requires
     loop-holds
     add-if1
     mark-row-requires

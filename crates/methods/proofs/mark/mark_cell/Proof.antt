@@ -11,20 +11,20 @@ use borrow.Author.Needs.{needs}
 use Rattle.methods.proofs.mark.mark_cell.Statement.{statement}
 use Rattle.methods.proofs.mark.mark_cell.Tie as tie
 
-number-of-cell-requires : tie.Need-number-of-cell-requires
-number-of-cell-requires c κs = search needs
+number-in-requires : tie.Need-number-in-requires
+number-in-requires c κs = (c .before .pre .2, c .before .pre .0)
 
 slice-write-marks : tie.Need-slice-write-marks
 slice-write-marks c =
     let a = c .before .before in
-    omega (arith, c .number-of-cell .ensures, number-below (a .args .c) (a .pre .0))
+    omega (arith, c .number-in .ensures, number-below (a .args .c) (a .pre .0))
 
 same-length : tie.Need-same-length
 same-length c = search needs
 
 returns : tie.Need-returns
 unfolding withCells
-returns c = ap (λ (n : ℕ). set (now (c .before .before .args .marks)) n 1) (c .number-of-cell .ensures)
+returns c = ap (λ (n : ℕ). set (now (c .before .before .args .marks)) n 1) (c .number-in .ensures)
 
 pub mark-cell-spec : {M : Type 1} → statement M
-mark-cell-spec = tie.close (tie.spec number-of-cell-requires slice-write-marks same-length returns)
+mark-cell-spec = tie.close (tie.spec number-in-requires slice-write-marks same-length returns)

@@ -21,17 +21,20 @@ use Rattle.methods.proofs.mark.mark_reached.Statement.{statement}
 use Rattle.methods.proofs.mark.mark_reached.Tie as tie
 
 abbrev Inv-loop : tie.InvT-loop
-Inv-loop table slot b q d marks₀ row₀ size₀ marks row size =
+Inv-loop table slot b q d marks₀ numbers row₀ size₀ marks row size =
     (length marks ≡ cells)
     × Left marks₀ (reached (rowsOfSlot table slot) q (toZ w64 d) (cellsOf b)) marks size (reached (rowsOfSlot table slot) q (toZ w64 d) (rowsFrom b row))
 
 abbrev μ-loop : tie.MeasureT-loop
-μ-loop table slot b q d marks₀ row₀ size₀ marks row size = b .«last_row» + 1 - row
+μ-loop table slot b q d marks₀ numbers row₀ size₀ marks row size = b .«last_row» + 1 - row
+
+curve-numbers-requires : tie.Need-curve-numbers-requires Inv-loop μ-loop
+curve-numbers-requires c κs = search needs
 
 loop-holds : tie.Need-loop-holds Inv-loop μ-loop
 unfolding cellsOf
 loop-holds c =
-    let a = c .before in
+    let a = c .before .before in
     let b = a .args .b in
     (a .pre .3, left-all (now (a .args .marks)) (reached (rowsOfSlot (now (a .args .table)) (a .args .slot)) (a .args .q) (back w64 (a .args .d)) (cellsOf b)))
 
@@ -40,14 +43,14 @@ add-if1 c = omega arith
 
 mark-reached-in-row-requires : tie.Need-mark-reached-in-row-requires Inv-loop μ-loop
 mark-reached-in-row-requires c κs =
-    let h = c .before .before .before in
-    let a = h .before .before in
-    (a .pre .0, ask-back (a .pre .1) (a .fits .d .sfits), a .pre .2, omega arith, h .loop .inv .0)
+    let h = c .before .before .before .before in
+    let a = h .before .before .before in
+    (a .pre .0, ask-back (a .pre .1) (a .fits .d .sfits), a .pre .2, omega arith, h .loop .inv .0, h .before .curve-numbers .ensures)
 
 add-size : tie.Need-add-size Inv-loop μ-loop
 add-size c =
-    let h = c .before .before .before .before .before .before in
-    let a = h .before .before in
+    let h = c .before .before .before .before .before .before .before in
+    let a = h .before .before .before in
     let b = a .args .b in
     let d = back w64 (a .args .d) in
     let rows = rowsOfSlot (now (a .args .table)) (a .args .slot) in
@@ -63,8 +66,8 @@ loop-less c = omega arith
 
 loop-again : tie.Need-loop-again Inv-loop μ-loop
 loop-again c =
-    let h = c .before .before .before .before .before .before in
-    let a = h .before .before in
+    let h = c .before .before .before .before .before .before .before in
+    let a = h .before .before .before in
     let b = a .args .b in
     let d = back w64 (a .args .d) in
     let rows = rowsOfSlot (now (a .args .table)) (a .args .slot) in
@@ -79,7 +82,7 @@ same-length c = search needs
 returns : tie.Need-returns Inv-loop μ-loop
 returns c =
     let h = c .before .before in
-    let a = h .before .before in
+    let a = h .before .before .before in
     let b = a .args .b in
     let d = back w64 (a .args .d) in
     let rows = rowsOfSlot (now (a .args .table)) (a .args .slot) in
@@ -91,6 +94,7 @@ mark-reached-spec =
     (tie.spec
     Inv-loop
     μ-loop
+    curve-numbers-requires
     loop-holds
     add-if1
     mark-reached-in-row-requires

@@ -22,12 +22,12 @@ use Rattle.methods.proofs.mark.mark_reached_in_row.Statement.{statement
 use Rattle.methods.proofs.mark.mark_reached_in_row.Tie as tie
 
 abbrev Inv-loop : tie.InvT-loop
-Inv-loop table slot b row q d marks₀ column₀ size₀ marks column size =
+Inv-loop table slot b row q d marks₀ numbers column₀ size₀ marks column size =
     (length marks ≡ cells)
     × Left marks₀ (reached (rowsOfSlot table slot) q (toZ w64 d) (rowFrom b row column₀)) marks size (reached (rowsOfSlot table slot) q (toZ w64 d) (rowFrom b row column))
 
 abbrev μ-loop : tie.MeasureT-loop
-μ-loop table slot b row q d marks₀ column₀ size₀ marks column size = b .«last_column» + 1 - column
+μ-loop table slot b row q d marks₀ numbers column₀ size₀ marks column size = b .«last_column» + 1 - column
 
 loop-holds : tie.Need-loop-holds Inv-loop μ-loop
 loop-holds c =
@@ -42,7 +42,7 @@ mark-if-reached-requires : tie.Need-mark-if-reached-requires Inv-loop μ-loop
 mark-if-reached-requires c κs =
     let h = c .before .before .before in
     let a = h .before .before in
-    (a .pre .0, ask-back (a .pre .1) (a .fits .d .sfits), record { column-on = omega arith; row-on = a .pre .3 }, h .loop .inv .0)
+    (a .pre .0, ask-back (a .pre .1) (a .fits .d .sfits), record { column-on = omega arith; row-on = a .pre .3 }, h .loop .inv .0, a .pre .5)
 
 add-size : tie.Need-add-size Inv-loop μ-loop
 add-size c =

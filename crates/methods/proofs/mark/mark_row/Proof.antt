@@ -16,10 +16,10 @@ use Rattle.methods.proofs.mark.mark_row.Statement.{statement}
 use Rattle.methods.proofs.mark.mark_row.Tie as tie
 
 abbrev Inv-loop : tie.InvT-loop
-Inv-loop b row marks₀ column₀ size₀ marks column size = (length marks ≡ cells) × Left marks₀ (rowFrom b row column₀) marks size (rowFrom b row column)
+Inv-loop b row marks₀ numbers column₀ size₀ marks column size = (length marks ≡ cells) × Left marks₀ (rowFrom b row column₀) marks size (rowFrom b row column)
 
 abbrev μ-loop : tie.MeasureT-loop
-μ-loop b row marks₀ column₀ size₀ marks column size = b .«last_column» + 1 - column
+μ-loop b row marks₀ numbers column₀ size₀ marks column size = b .«last_column» + 1 - column
 
 loop-holds : tie.Need-loop-holds Inv-loop μ-loop
 loop-holds c =
@@ -33,7 +33,7 @@ mark-cell-requires : tie.Need-mark-cell-requires Inv-loop μ-loop
 mark-cell-requires c κs =
     let h = c .before .before .before in
     let a = h .before .before in
-    (record { column-on = omega arith; row-on = a .pre .1 }, h .loop .inv .0)
+    (record { column-on = omega arith; row-on = a .pre .1 }, h .loop .inv .0, a .pre .3)
 
 add-size : tie.Need-add-size Inv-loop μ-loop
 add-size c =
