@@ -2,7 +2,7 @@
 //! them out: written from a ledger, and read back to one.
 
 use crate::sound::{key_in, record};
-use plain_ledger::grid::{places, CELLS, SIDE};
+use plain_ledger::grid::{curve, places, CELLS, SIDE};
 use plain_ledger::ledger::{live, slot, Held, Ledger, PHASE};
 use plain_ledger::methods::{Row, Wrong};
 use std::sync::LazyLock;
@@ -17,21 +17,6 @@ pub const RECORD: usize = 7;
 pub struct Words {
     pub store: Vec<i32>,
     pub table: Vec<i16>,
-}
-
-/// The number of (x, y) on the curve through a square of the given side.
-fn curve(side: usize, x: usize, y: usize) -> usize {
-    if side == 1 {
-        return 0;
-    }
-    let s = side / 2;
-    let (u, v) = (x % s, y % s);
-    match (x / s, y / s) {
-        (0, 0) => curve(s, v, u),
-        (0, _) => s * s + curve(s, u, v),
-        (_, 1) => 2 * s * s + curve(s, u, v),
-        _ => 3 * s * s + curve(s, s - 1 - v, s - 1 - u),
-    }
 }
 
 static CURVE: LazyLock<Vec<usize>> = LazyLock::new(|| {

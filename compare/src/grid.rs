@@ -55,24 +55,25 @@ impl Block {
     }
 }
 
+/// The number of (x, y) on the Hilbert curve through a square of the given
+/// side. No answer of the ledger shows it; buffers do.
+pub fn curve(side: usize, x: usize, y: usize) -> usize {
+    if side == 1 {
+        return 0;
+    }
+    let s = side / 2;
+    let (u, v) = (x % s, y % s);
+    match (x / s, y / s) {
+        (0, 0) => curve(s, v, u),
+        (0, _) => s * s + curve(s, u, v),
+        (_, 1) => 2 * s * s + curve(s, u, v),
+        _ => 3 * s * s + curve(s, s - 1 - v, s - 1 - u),
+    }
+}
+
 #[cfg(test)]
 mod tests {
     use super::*;
-
-    /// The curve number of (x, y) in a square of the given side.
-    fn curve(side: usize, x: usize, y: usize) -> usize {
-        if side == 1 {
-            return 0;
-        }
-        let s = side / 2;
-        let (u, v) = (x % s, y % s);
-        match (x / s, y / s) {
-            (0, 0) => curve(s, v, u),
-            (0, _) => s * s + curve(s, u, v),
-            (_, 1) => 2 * s * s + curve(s, u, v),
-            _ => 3 * s * s + curve(s, s - 1 - v, s - 1 - u),
-        }
-    }
 
     #[test]
     fn p1_to_p6_curve_numbers() {

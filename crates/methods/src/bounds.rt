@@ -4,8 +4,8 @@ ghost use mathlib.Core.List.{map};
 ghost use Prim.Native.Nat.{_<_};
 ghost use lib.ListN.{length};
 ghost use Rattle.grid.specs.Units.{side};
-ghost use Rattle.grid.specs.Curve.{IsCurve};
 ghost use Rattle.grid.specs.Places.{OnGrid};
+ghost use Rattle.grid.specs.Curve.{IsCurve};
 ghost use Rattle.rows.specs.Row.{boundsOf};
 ghost use Rattle.rows.specs.Phases.{slots};
 ghost use Rattle.rows.specs.Table.{tableWords};
@@ -17,17 +17,17 @@ use crate::Block;
 use grid::Cell;
 use rows::Row;
 
-// The row of a cell. `numbers` is the grid's table of curve numbers, here and below.
-pub fn row_of_cell(table: &[i16], slot: usize, c: Cell, numbers: &[u16; 1024]) -> Row
-    requires { ⌜ (length (now table) ≡ tableWords) × (slot < slots) × OnGrid c × IsCurve (now numbers) ⌝ }
+// The row of a cell. `numbers` is the grid's table of curve numbers, which a pass holds from its first cell to its last.
+pub fn row_of_cell(numbers: &[u16; 1024], table: &[i16], slot: usize, c: Cell) -> Row
+    requires { ⌜ (IsCurve (now numbers)) × (length (now table) ≡ tableWords) × (slot < slots) × OnGrid c ⌝ }
     ensures { λ r. ⌜ r ≡ rowsOfSlot (now (table .entry)) slot c ⌝ }
 {
     Row::read(table, slot, grid::number_in(numbers, c))
 }
 
 // The bounds of a block's cells of one row.
-fn row_bounds(table: &[i16], slot: usize, b: Block, row: usize, numbers: &[u16; 1024]) -> Row
-    requires { ⌜ (length (now table) ≡ tableWords) × (slot < slots) × BlockOnGrid b × (row < side) × IsCurve (now numbers) ⌝ }
+fn row_bounds(numbers: &[u16; 1024], table: &[i16], slot: usize, b: Block, row: usize) -> Row
+    requires { ⌜ (IsCurve (now numbers)) × (length (now table) ≡ tableWords) × (slot < slots) × BlockOnGrid b × (row < side) ⌝ }
     ensures { λ r. ⌜ r ≡ boundsOf (map (rowsOfSlot (now (table .entry)) slot) (cellsOfRow row (b .«first_column») (columnsOf b))) ⌝ }
 {
     let mut bounds = Row::empty();
@@ -35,13 +35,13 @@ fn row_bounds(table: &[i16], slot: usize, b: Block, row: usize, numbers: &[u16; 
     while b.first_column < column {
         column -= 1;
         bounds = row_of_cell(
+            numbers,
             table,
             slot,
             Cell {
                 column: column,
                 row: row,
             },
-            numbers,
         ).join(bounds);
     }
     bounds
@@ -57,7 +57,7 @@ pub fn block_bounds(table: &[i16], slot: usize, b: Block) -> Row
     let mut row = b.last_row + 1;
     while b.first_row < row {
         row -= 1;
-        bounds = row_bounds(table, slot, b, row, &numbers).join(bounds);
+        bounds = row_bounds(&numbers, table, slot, b, row).join(bounds);
     }
     bounds
 }

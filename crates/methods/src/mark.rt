@@ -3,9 +3,9 @@ ghost use mathlib.Core.Path.{_≡_};
 ghost use mathlib.Core.List.{[], _∷_};
 ghost use Prim.Native.Nat.{_<_};
 ghost use lib.ListN.{length};
-ghost use Rattle.grid.specs.Curve.{IsCurve};
 ghost use Rattle.grid.specs.Units.{side, cells};
 ghost use Rattle.grid.specs.Places.{OnGrid};
+ghost use Rattle.grid.specs.Curve.{IsCurve};
 ghost use Rattle.methods.specs.Reach.{columnsOf, cellsOfRow, cellsOf};
 ghost use Rattle.methods.specs.Methods.{isReached, reached};
 ghost use Rattle.methods.specs.Chosen.{rowsOfSlot, withCells, IsSlot, IsAsk};
@@ -29,9 +29,9 @@ pub fn clear(marks: &mut [u8])
     }
 }
 
-// `numbers` is the grid's table of curve numbers, here and below.
-fn mark_cell(c: Cell, marks: &mut [u8], numbers: &[u16; 1024])
-    requires { ⌜ OnGrid c × (length (now marks) ≡ cells) × IsCurve (now numbers) ⌝ }
+// Marks a cell. Here and below `numbers` is the grid's table of curve numbers, which a pass holds from its first cell to its last.
+fn mark_cell(numbers: &[u16; 1024], c: Cell, marks: &mut [u8])
+    requires { ⌜ (IsCurve (now numbers)) × OnGrid c × (length (now marks) ≡ cells) ⌝ }
     ensures { λ u. ⌜ now (marks .exit) ≡ withCells (now (marks .entry)) (c ∷ []) ⌝ }
 {
     let n = grid::number_in(numbers, c);
@@ -39,20 +39,20 @@ fn mark_cell(c: Cell, marks: &mut [u8], numbers: &[u16; 1024])
 }
 
 // Marks a block's cells of one row, and counts them.
-fn mark_row(b: Block, row: usize, marks: &mut [u8], numbers: &[u16; 1024]) -> usize
-    requires { ⌜ BlockOnGrid b × (row < side) × (length (now marks) ≡ cells) × IsCurve (now numbers) ⌝ }
+fn mark_row(numbers: &[u16; 1024], b: Block, row: usize, marks: &mut [u8]) -> usize
+    requires { ⌜ (IsCurve (now numbers)) × BlockOnGrid b × (row < side) × (length (now marks) ≡ cells) ⌝ }
     ensures { λ r. ⌜ Marked (now (marks .entry)) (cellsOfRow row (b .«first_column») (columnsOf b)) (now (marks .exit)) r ⌝ }
 {
     let mut column = b.first_column;
     let mut size = 0;
-    while column < b.last_column + 1 {
+    while column <= b.last_column {
         mark_cell(
+            numbers,
             Cell {
                 column: column,
                 row: row,
             },
             marks,
-            numbers,
         );
         size += 1;
         column += 1;
@@ -68,8 +68,8 @@ pub fn mark_block(b: Block, marks: &mut [u8]) -> usize
     let numbers = grid::curve_numbers();
     let mut row = b.first_row;
     let mut size = 0;
-    while row < b.last_row + 1 {
-        size += mark_row(b, row, marks, &numbers);
+    while row <= b.last_row {
+        size += mark_row(&numbers, b, row, marks);
         row += 1;
     }
     size
@@ -77,17 +77,17 @@ pub fn mark_block(b: Block, marks: &mut [u8]) -> usize
 
 // Whether a cell's row is nonempty and the cell, moved by the row's speeds over d, meets the rectangle.
 pub fn is_reached(
+    numbers: &[u16; 1024],
     table: &[i16],
     slot: usize,
     c: Cell,
     q: Rect,
     d: i64,
-    numbers: &[u16; 1024],
 ) -> bool
-    requires { ⌜ IsSlot (now table) slot × IsAsk q d × OnGrid c × IsCurve (now numbers) ⌝ }
+    requires { ⌜ (IsCurve (now numbers)) × IsSlot (now table) slot × IsAsk q d × OnGrid c ⌝ }
     ensures { λ r. ⌜ r ≡ isReached (rowsOfSlot (now (table .entry)) slot) q d c ⌝ }
 {
-    let row = row_of_cell(table, slot, c, numbers);
+    let row = row_of_cell(numbers, table, slot, c);
     if row.is_empty() {
         return false;
     }
@@ -96,26 +96,27 @@ pub fn is_reached(
 
 // Marks a cell if it is reached, and counts it.
 fn mark_if_reached(
+    numbers: &[u16; 1024],
     table: &[i16],
     slot: usize,
     c: Cell,
     q: Rect,
     d: i64,
     marks: &mut [u8],
-    numbers: &[u16; 1024],
 ) -> usize
-    requires { ⌜ IsSlot (now table) slot × IsAsk q d × OnGrid c × (length (now marks) ≡ cells) × IsCurve (now numbers) ⌝ }
+    requires { ⌜ (IsCurve (now numbers)) × IsSlot (now table) slot × IsAsk q d × OnGrid c × (length (now marks) ≡ cells) ⌝ }
     ensures { λ r. ⌜ Marked (now (marks .entry)) (reached (rowsOfSlot (now (table .entry)) slot) q d (c ∷ [])) (now (marks .exit)) r ⌝ }
 {
-    if !is_reached(table, slot, c, q, d, numbers) {
+    if !is_reached(numbers, table, slot, c, q, d) {
         return 0;
     }
-    mark_cell(c, marks, numbers);
+    mark_cell(numbers, c, marks);
     1
 }
 
 // Marks those of a block's cells of one row that are reached, and counts them.
 fn mark_reached_in_row(
+    numbers: &[u16; 1024],
     table: &[i16],
     slot: usize,
     b: Block,
@@ -123,15 +124,15 @@ fn mark_reached_in_row(
     q: Rect,
     d: i64,
     marks: &mut [u8],
-    numbers: &[u16; 1024],
 ) -> usize
-    requires { ⌜ IsSlot (now table) slot × IsAsk q d × BlockOnGrid b × (row < side) × (length (now marks) ≡ cells) × IsCurve (now numbers) ⌝ }
+    requires { ⌜ (IsCurve (now numbers)) × IsSlot (now table) slot × IsAsk q d × BlockOnGrid b × (row < side) × (length (now marks) ≡ cells) ⌝ }
     ensures { λ r. ⌜ Marked (now (marks .entry)) (reached (rowsOfSlot (now (table .entry)) slot) q d (cellsOfRow row (b .«first_column») (columnsOf b))) (now (marks .exit)) r ⌝ }
 {
     let mut column = b.first_column;
     let mut size = 0;
     while column < b.last_column + 1 {
         size += mark_if_reached(
+            numbers,
             table,
             slot,
             Cell {
@@ -141,7 +142,6 @@ fn mark_reached_in_row(
             q,
             d,
             marks,
-            numbers,
         );
         column += 1;
     }
@@ -164,7 +164,7 @@ pub fn mark_reached(
     let mut row = b.first_row;
     let mut size = 0;
     while row < b.last_row + 1 {
-        size += mark_reached_in_row(table, slot, b, row, q, d, marks, &numbers);
+        size += mark_reached_in_row(&numbers, table, slot, b, row, q, d, marks);
         row += 1;
     }
     size

@@ -42,8 +42,9 @@ sub-row c = omega arith
 
 row-bounds-requires : tie.Need-row-bounds-requires Inv-loop μ-loop
 row-bounds-requires c κs =
-    let a = c .before .before .before .before .before .before .before in
-    (a .pre .0, a .pre .1, a .pre .2, omega arith, c .before .before .before .before .before .before .curve-numbers .ensures)
+    let n = c .before .before .before .before .before .before in
+    let a = n .before in
+    (n .curve-numbers .ensures, a .pre .0, a .pre .1, a .pre .2, omega arith)
 
 join-requires : tie.Need-join-requires Inv-loop μ-loop
 join-requires c κs = search needs

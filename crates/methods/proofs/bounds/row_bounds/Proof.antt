@@ -13,13 +13,13 @@ use Rattle.methods.proofs.bounds.row_bounds.Statement.{statement}
 use Rattle.methods.proofs.bounds.row_bounds.Tie as tie
 
 abbrev Inv-loop : tie.InvT-loop
-Inv-loop table slot b row numbers bounds₀ column₀ bounds column =
+Inv-loop numbers table slot b row bounds₀ column₀ bounds column =
     (column ≤ b .«last_column» + 1)
     × (min (b .«first_column») (b .«last_column» + 1) ≤ column)
     × (bounds ≡ boundsFor (rowsOfSlot table slot) (rowFrom b row column))
 
 abbrev μ-loop : tie.MeasureT-loop
-μ-loop table slot b row numbers bounds₀ column₀ bounds column = column
+μ-loop numbers table slot b row bounds₀ column₀ bounds column = column
 
 empty-requires : tie.Need-empty-requires Inv-loop μ-loop
 empty-requires c κs = search needs
@@ -39,7 +39,7 @@ sub-column c = omega arith
 row-of-cell-requires : tie.Need-row-of-cell-requires Inv-loop μ-loop
 row-of-cell-requires c κs =
     let a = c .before .before .before .before .before in
-    (a .pre .0, a .pre .1, record { column-on = omega arith; row-on = a .pre .3 }, a .pre .4)
+    (a .pre .0, a .pre .1, a .pre .2, record { column-on = omega arith; row-on = a .pre .4 })
 
 join-requires : tie.Need-join-requires Inv-loop μ-loop
 join-requires c κs = search needs

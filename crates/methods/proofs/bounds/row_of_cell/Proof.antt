@@ -10,12 +10,12 @@ use Rattle.methods.proofs.bounds.row_of_cell.Statement.{statement}
 use Rattle.methods.proofs.bounds.row_of_cell.Tie as tie
 
 number-in-requires : tie.Need-number-in-requires
-number-in-requires c κs = (c .pre .3, c .pre .2)
+number-in-requires c κs = search needs
 
 read-requires : tie.Need-read-requires
 read-requires c κs =
     let a = c .before in
-    (a .pre .0, a .pre .1, omega (arith, c .number-in .ensures, number-below (a .args .c) (a .pre .2)))
+    (a .pre .1, a .pre .2, omega (arith, c .number-in .ensures, number-below (a .args .c) (a .pre .3)))
 
 returns : tie.Need-returns
 returns c =

@@ -34,7 +34,7 @@ moved-cell-meets-requires : tie.Need-moved-cell-meets-requires
 moved-cell-meets-requires c κs =
     let r = c .before .before in
     let a = r .before in
-    (a .pre .2, ask-back (a .pre .1) (a .fits .d .sfits), ap validRow (r .row-of-cell .ensures) ∙ slot-valid (a .pre .0) (a .args .c) (a .pre .2))
+    (a .pre .3, ask-back (a .pre .2) (a .fits .d .sfits), ap validRow (r .row-of-cell .ensures) ∙ slot-valid (a .pre .1) (a .args .c) (a .pre .3))
 
 returns-2 : tie.Need-returns-2
 returns-2 c =

@@ -29,14 +29,12 @@ loop-holds c =
     let a = c .before .before in
     (a .pre .1, left-all (now (a .args .marks)) (cellsOf (a .args .b)))
 
-add-if1 : tie.Need-add-if1 Inv-loop μ-loop
-add-if1 c = omega arith
-
 mark-row-requires : tie.Need-mark-row-requires Inv-loop μ-loop
 mark-row-requires c κs =
     let h = c .before .before .before .before in
-    let a = h .before .before .before in
-    (a .pre .0, omega arith, h .loop .inv .0, h .before .curve-numbers .ensures)
+    let n = h .before in
+    let a = n .before .before in
+    (n .curve-numbers .ensures, a .pre .0, omega arith, h .loop .inv .0)
 
 add-size : tie.Need-add-size Inv-loop μ-loop
 add-size c =
@@ -78,7 +76,6 @@ mark-block-spec =
     μ-loop
     curve-numbers-requires
     loop-holds
-    add-if1
     mark-row-requires
     add-size
     add-row

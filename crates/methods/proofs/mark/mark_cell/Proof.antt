@@ -12,12 +12,12 @@ use Rattle.methods.proofs.mark.mark_cell.Statement.{statement}
 use Rattle.methods.proofs.mark.mark_cell.Tie as tie
 
 number-in-requires : tie.Need-number-in-requires
-number-in-requires c κs = (c .before .pre .2, c .before .pre .0)
+number-in-requires c κs = search needs
 
 slice-write-marks : tie.Need-slice-write-marks
 slice-write-marks c =
     let a = c .before .before in
-    omega (arith, c .number-in .ensures, number-below (a .args .c) (a .pre .0))
+    omega (arith, c .number-in .ensures, number-below (a .args .c) (a .pre .1))
 
 same-length : tie.Need-same-length
 same-length c = search needs

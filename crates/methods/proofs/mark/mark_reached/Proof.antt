@@ -44,8 +44,9 @@ add-if1 c = omega arith
 mark-reached-in-row-requires : tie.Need-mark-reached-in-row-requires Inv-loop μ-loop
 mark-reached-in-row-requires c κs =
     let h = c .before .before .before .before in
-    let a = h .before .before .before in
-    (a .pre .0, ask-back (a .pre .1) (a .fits .d .sfits), a .pre .2, omega arith, h .loop .inv .0, h .before .curve-numbers .ensures)
+    let n = h .before in
+    let a = n .before .before in
+    (n .curve-numbers .ensures, a .pre .0, ask-back (a .pre .1) (a .fits .d .sfits), a .pre .2, omega arith, h .loop .inv .0)
 
 add-size : tie.Need-add-size Inv-loop μ-loop
 add-size c =

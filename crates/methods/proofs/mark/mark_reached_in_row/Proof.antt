@@ -22,18 +22,18 @@ use Rattle.methods.proofs.mark.mark_reached_in_row.Statement.{statement
 use Rattle.methods.proofs.mark.mark_reached_in_row.Tie as tie
 
 abbrev Inv-loop : tie.InvT-loop
-Inv-loop table slot b row q d marks₀ numbers column₀ size₀ marks column size =
+Inv-loop numbers table slot b row q d marks₀ column₀ size₀ marks column size =
     (length marks ≡ cells)
     × Left marks₀ (reached (rowsOfSlot table slot) q (toZ w64 d) (rowFrom b row column₀)) marks size (reached (rowsOfSlot table slot) q (toZ w64 d) (rowFrom b row column))
 
 abbrev μ-loop : tie.MeasureT-loop
-μ-loop table slot b row q d marks₀ numbers column₀ size₀ marks column size = b .«last_column» + 1 - column
+μ-loop numbers table slot b row q d marks₀ column₀ size₀ marks column size = b .«last_column» + 1 - column
 
 loop-holds : tie.Need-loop-holds Inv-loop μ-loop
 loop-holds c =
     let a = c .before in
     let b = a .args .b in
-    (a .pre .4, left-all (now (a .args .marks)) (reached (rowsOfSlot (now (a .args .table)) (a .args .slot)) (a .args .q) (back w64 (a .args .d)) (rowFrom b (a .args .row) (b .«first_column»))))
+    (a .pre .5, left-all (now (a .args .marks)) (reached (rowsOfSlot (now (a .args .table)) (a .args .slot)) (a .args .q) (back w64 (a .args .d)) (rowFrom b (a .args .row) (b .«first_column»))))
 
 add-if1 : tie.Need-add-if1 Inv-loop μ-loop
 add-if1 c = omega arith
@@ -42,7 +42,7 @@ mark-if-reached-requires : tie.Need-mark-if-reached-requires Inv-loop μ-loop
 mark-if-reached-requires c κs =
     let h = c .before .before .before in
     let a = h .before .before in
-    (a .pre .0, ask-back (a .pre .1) (a .fits .d .sfits), record { column-on = omega arith; row-on = a .pre .3 }, h .loop .inv .0, a .pre .5)
+    (a .pre .0, a .pre .1, ask-back (a .pre .2) (a .fits .d .sfits), record { column-on = omega arith; row-on = a .pre .4 }, h .loop .inv .0)
 
 add-size : tie.Need-add-size Inv-loop μ-loop
 add-size c =
@@ -53,7 +53,7 @@ add-size c =
     let rows = rowsOfSlot (now (a .args .table)) (a .args .slot) in
     let column = h .loop .column in
     omega
-    (arith, row-few b (a .args .row) (a .pre .2), reached-few rows (a .args .q) d (rowFrom b (a .args .row) (b .«first_column»)), c .before .before .mark-if-reached .ensures .size-is, left-fewer (h .loop .inv .1) (reached rows (a .args .q) d (cell column (a .args .row) ∷ [])) (reached rows (a .args .q) d (rowFrom b (a .args .row) (column + 1))) (reached-row-before rows (a .args .q) d b (a .args .row) column (omega arith)))
+    (arith, row-few b (a .args .row) (a .pre .3), reached-few rows (a .args .q) d (rowFrom b (a .args .row) (b .«first_column»)), c .before .before .mark-if-reached .ensures .size-is, left-fewer (h .loop .inv .1) (reached rows (a .args .q) d (cell column (a .args .row) ∷ [])) (reached rows (a .args .q) d (rowFrom b (a .args .row) (column + 1))) (reached-row-before rows (a .args .q) d b (a .args .row) column (omega arith)))
 
 add-column : tie.Need-add-column Inv-loop μ-loop
 add-column c = omega arith

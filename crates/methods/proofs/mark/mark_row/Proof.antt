@@ -16,24 +16,21 @@ use Rattle.methods.proofs.mark.mark_row.Statement.{statement}
 use Rattle.methods.proofs.mark.mark_row.Tie as tie
 
 abbrev Inv-loop : tie.InvT-loop
-Inv-loop b row marks₀ numbers column₀ size₀ marks column size = (length marks ≡ cells) × Left marks₀ (rowFrom b row column₀) marks size (rowFrom b row column)
+Inv-loop numbers b row marks₀ column₀ size₀ marks column size = (length marks ≡ cells) × Left marks₀ (rowFrom b row column₀) marks size (rowFrom b row column)
 
 abbrev μ-loop : tie.MeasureT-loop
-μ-loop b row marks₀ numbers column₀ size₀ marks column size = b .«last_column» + 1 - column
+μ-loop numbers b row marks₀ column₀ size₀ marks column size = b .«last_column» + 1 - column
 
 loop-holds : tie.Need-loop-holds Inv-loop μ-loop
 loop-holds c =
     let a = c .before in
-    (a .pre .2, left-all (now (a .args .marks)) (rowFrom (a .args .b) (a .args .row) (a .args .b .«first_column»)))
-
-add-if1 : tie.Need-add-if1 Inv-loop μ-loop
-add-if1 c = omega arith
+    (a .pre .3, left-all (now (a .args .marks)) (rowFrom (a .args .b) (a .args .row) (a .args .b .«first_column»)))
 
 mark-cell-requires : tie.Need-mark-cell-requires Inv-loop μ-loop
 mark-cell-requires c κs =
     let h = c .before .before .before in
     let a = h .before .before in
-    (record { column-on = omega arith; row-on = a .pre .1 }, h .loop .inv .0, a .pre .3)
+    (a .pre .0, record { column-on = omega arith; row-on = a .pre .2 }, h .loop .inv .0)
 
 add-size : tie.Need-add-size Inv-loop μ-loop
 add-size c =
@@ -42,7 +39,7 @@ add-size c =
     let b = a .args .b in
     let column = h .loop .column in
     omega
-    (arith, row-few b (a .args .row) (a .pre .0), left-fewer (h .loop .inv .1) (cell column (a .args .row) ∷ []) (rowFrom b (a .args .row) (column + 1)) (row-before b (a .args .row) column (omega arith)))
+    (arith, row-few b (a .args .row) (a .pre .1), left-fewer (h .loop .inv .1) (cell column (a .args .row) ∷ []) (rowFrom b (a .args .row) (column + 1)) (row-before b (a .args .row) column (omega arith)))
 
 add-column : tie.Need-add-column Inv-loop μ-loop
 add-column c = omega arith
@@ -77,7 +74,6 @@ mark-row-spec =
     Inv-loop
     μ-loop
     loop-holds
-    add-if1
     mark-cell-requires
     add-size
     add-column
