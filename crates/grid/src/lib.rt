@@ -109,14 +109,6 @@ pub fn number_in(numbers: &[u16; 1024], c: Cell) -> usize
     wide(numbers[c.row * SIDE + c.column])
 }
 
-pub fn number_of_cell(c: Cell) -> usize
-    requires { ⌜ OnGrid c ⌝ }
-    ensures { λ r. ⌜ r ≡ curveNumber c ⌝ }
-{
-    let numbers = curve_numbers();
-    number_in(&numbers, c)
-}
-
 pub fn cell_of_number(n: usize) -> Cell
     requires { ⌜ n < cells ⌝ }
     ensures { λ r. ⌜ r ≡ cellOfNumber n ⌝ }

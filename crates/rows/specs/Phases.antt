@@ -4,7 +4,7 @@
 use mathlib.Core.Bool.{Bool, _&&_}
 use mathlib.Core.List.{List, [], _∷_}
 use Prim.Native.Nat.{ℕ, zero, suc, _+_, _*_, _/_, _%_}
-use lib.Dec.{leb, ltb}
+use lib.Dec.{leb}
 use lib.IntN.{ℤ, pos, negsuc, _-ℤ_}
 
 -- the length of a phase
@@ -37,10 +37,6 @@ unfoldable pub livePhases : ℕ → List ℕ
 livePhases zero = 0 ∷ []
 livePhases (suc zero) = 1 ∷ 0 ∷ []
 livePhases (suc (suc c)) = suc (suc c) ∷ suc c ∷ c ∷ []
-
--- whether phase p is live now that the current phase is c, and was not when it was `earlier`
-unfoldable pub isNewlyLive : ℕ → ℕ → ℕ → Bool
-isNewlyLive earlier c p = isLive c p && ltb earlier p
 
 unfoldable pub slotOf : ℕ → ℕ
 slotOf p = p % slots
