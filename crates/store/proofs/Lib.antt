@@ -6,6 +6,7 @@ pub mod SoundLawsMarks
 pub mod SoundLaws
 pub mod ChangeLaws
 pub mod ReadingLaws
+pub mod RisingLaws
 pub mod StepLaws
 pub mod KeepLaws
 pub mod ListedLaws

@@ -2,9 +2,10 @@
 -- of what the public functions promise.
 -- Assumes nothing.
 use mathlib.Core.Path.{_≡_}
-use mathlib.Core.Bool.{Bool, true, cond}
+use mathlib.Core.Bool.{Bool, true, cond, _&&_}
 use mathlib.Core.List.{List, [], _∷_, _++_}
 use Prim.Native.Nat.{ℕ, suc, _+_, _-_, _*_, _/_, _≤_, _<_, _^_}
+use lib.Dec.{eqb}
 use lib.IntN.{ℤ, pos, natAbs}
 use lib.Signed.{leZ}
 use lib.ListN.{length, take, drop}
@@ -17,7 +18,7 @@ use Rattle.store.specs.Records.{recordWords, nowOf, heldOf, readRecords,
 use Rattle.store.specs.Order.{precedes}
 use Rattle.store.specs.Soundness.{allRanged, IsStore}
 use Rattle.store.specs.Changes.{kept, replaced}
-use Rattle.store.specs.Reading.{inSet, betweenKeys}
+use Rattle.store.specs.Reading.{inSet, betweenKeys, risingFrom}
 use Rattle.store.specs.declared.Record.{Record}
 use Rattle.store.specs.declared.reading.Run.{Run}
 use Rattle.store.specs.declared.reading.Tally.{Tally}
@@ -123,3 +124,23 @@ pub record PlaceAsked (s t dead : List ℤ) (m : ℕ) : Type 0 where
   pub inside : recordWords * m ≤ length dead
   pub total : m + length (recordsOf s) ≤ capacity
   pub ranged : allRanged (readRecords m dead) ≡ true
+
+-- no mark is set
+unfoldable pub isClear : List ℕ → Bool
+isClear [] = true
+isClear (m ∷ ms) = eqb m 0 && isClear ms
+
+-- what writing the marked ids from `first` up to `stop` to a list from `start` on asks
+pub record HasRoom (found : List ℕ) (first stop : ℕ) (list : List ℕ) (start : ℕ) : Type 0 where
+  pub marks : length found ≡ 65536
+  pub ordered : first ≤ stop
+  pub within : stop ≤ 65536
+  pub room : start + length (risingFrom found first (stop - first)) ≤ length list
+
+-- the marked ids from `first` up to `stop` written over a list from `start` up to `end`, what lies before and after as it was
+pub record Written (found : List ℕ) (first stop : ℕ) (list : List ℕ) (start : ℕ) (list′ : List ℕ) (end : ℕ) : Type 0 where
+  pub long : length list′ ≡ length list
+  pub later : start ≤ end
+  pub inside : end ≤ length list′
+  pub ids : take end list′ ≡ take start list ++ risingFrom found first (stop - first)
+  pub rest : drop end list′ ≡ drop end list
