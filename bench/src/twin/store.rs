@@ -191,8 +191,8 @@ pub fn read_cells(
         let run = marks[number..].iter().take_while(|mark| **mark).count();
         let low = (CELLS * slot + number) as i32;
         let start = records.partition_point(|r| r[0] < low);
-        let end = records.partition_point(|r| r[0] < low + run as i32);
-        for r in &records[start..end] {
+        let stop = low + run as i32;
+        for r in records[start..].iter().take_while(|r| r[0] < stop) {
             let [x, y] = position(r, asked);
             if q[0].holds(x) && q[1].holds(y) {
                 found[r[1] as usize] = 1;
@@ -212,12 +212,19 @@ pub fn read_cells(
 }
 
 /// The marked ids by rising number, in front of a list that has room for them.
+/// A block of marks with none is passed over whole.
 pub fn write_rising(found: &[u8; 65_536], list: &mut [u16]) {
+    const BLOCK: usize = 32;
     let mut n = 0;
-    for (id, mark) in found.iter().enumerate() {
-        if *mark != 0 {
-            list[n] = id as u16;
-            n += 1;
+    for (number, block) in found.chunks_exact(BLOCK).enumerate() {
+        if block.iter().fold(0, |any, mark| any | mark) == 0 {
+            continue;
+        }
+        for (k, mark) in block.iter().enumerate() {
+            if *mark != 0 {
+                list[n] = (BLOCK * number + k) as u16;
+                n += 1;
+            }
         }
     }
 }
