@@ -2,3 +2,4 @@ pub mod FeedLaws
 pub mod Claims
 pub mod AnswerLaws
 pub mod ChunkLaws
+pub mod Sightings
