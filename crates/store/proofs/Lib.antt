@@ -6,9 +6,10 @@ pub mod SoundLawsMarks
 pub mod SoundLaws
 pub mod ChangeLaws
 pub mod ReadingLaws
+pub mod OrderLaws
+pub mod MergeLaws
 pub mod RisingLaws
 pub mod StepLaws
 pub mod KeepLaws
 pub mod ListedLaws
-pub mod OrderLaws
 pub mod SpeedLaws

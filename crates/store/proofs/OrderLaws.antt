@@ -35,20 +35,20 @@ or-false-right true b e = absurd (true-false e)
 or-false-right false b e = e
 
 -- the same key, and the lesser id
-record Tied (a b : Record) : Type 0 where
-  not-above : leZ (a .key) (b .key) ≡ true
-  not-below : leZ (b .key) (a .key) ≡ true
-  ids : ltZ (a .report .id) (b .report .id) ≡ true
+pub record Tied (a b : Record) : Type 0 where
+  pub not-above : leZ (a .key) (b .key) ≡ true
+  pub not-below : leZ (b .key) (a .key) ≡ true
+  pub ids : ltZ (a .report .id) (b .report .id) ≡ true
 
-by-key : (a b : Record) → ltZ (a .key) (b .key) ≡ true → precedes a b ≡ true
+pub by-key : (a b : Record) → ltZ (a .key) (b .key) ≡ true → precedes a b ≡ true
 unfolding precedes
 by-key a b h = rw h
 
-by-id : (a b : Record) → Tied a b → precedes a b ≡ true
+pub by-id : (a b : Record) → Tied a b → precedes a b ≡ true
 unfolding precedes eqZ
 by-id a b h = or-right (ltZ (a .key) (b .key)) _ (and-true _ _ (and-true _ _ (h .not-above) (h .not-below)) (h .ids))
 
-cases : (a b : Record) → precedes a b ≡ true → (ltZ (a .key) (b .key) ≡ true) ⊎ Tied a b
+pub cases : (a b : Record) → precedes a b ≡ true → (ltZ (a .key) (b .key) ≡ true) ⊎ Tied a b
 unfolding precedes eqZ
 cases a b h = go (ltZ (a .key) (b .key)) refl
   where

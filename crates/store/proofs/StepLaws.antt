@@ -1,4 +1,4 @@
--- The laws of a step of the current phase: the records that do not live on taken out in one pass, and put in again one by one.
+-- The laws of a step of the current phase: the records that do not live on taken out in one pass, and their rows widened.
 -- Assumes nothing.
 use mathlib.Core.Path.{_≡_, refl, sym, ap, _∙_}
 use mathlib.Core.Bool.{Bool, true, false, cond}
@@ -298,7 +298,7 @@ taken-out s₀ s ys s′ c later n k q en f ls ey es =
     let front : take a s ≡ header now (length rs) ++ wordsOfAll left = f .first ∙ ap (λ (l : List ℤ). take recordWords l ++ wordsOfAll left) (q .words) in
     es ∙ (λ j. set (front j ++ gap j) 1 (pos k)) ∙ ap (λ (j : ℕ). header now j ++ (wordsOfAll left ++ zeros (recordWords * (capacity - j)))) (sym (f .count))
 
--- ---- records put in
+-- ---- records put in, and their rows widened
 
 pub inserted-length : (r : Record) (rs : List Record) → length (inserted r rs) ≡ suc (length rs)
 unfolding inserted
@@ -313,62 +313,38 @@ table-length : (t : List ℤ) (slot number : ℕ) (vx vy : ℤ) → length (with
 unfolding withRow
 table-length t slot number vx vy = simp length-set
 
-pub record Place (s₀ t₀ dead : List ℤ) (m : ℕ) (s t : List ℤ) (j : ℕ) : Type 0 where
-  pub has : HasWords s
-  pub same-now : nowOf s ≡ nowOf s₀
+-- after j records
+pub record Widen (t₀ dead : List ℤ) (m : ℕ) (t : List ℤ) (j : ℕ) : Type 0 where
   pub inside : j ≤ m
-  pub total : m - j + length (recordsOf s) ≤ capacity
   pub table : length t ≡ tableWords
-  pub store-is : insertedAll (readRecords m dead) (recordsOf s₀) ≡ insertedAll (readRecords (m - j) (drop (recordWords * j) dead)) (recordsOf s)
   pub table-is : withSpeeds t₀ (readRecords m dead) ≡ withSpeeds t (readRecords (m - j) (drop (recordWords * j) dead))
   pub ranged : allRanged (readRecords (m - j) (drop (recordWords * j) dead)) ≡ true
 
-pub place-start : (s t dead : List ℤ) (m : ℕ) → PlaceAsked s t dead m → Place s t dead m s t 0
-place-start s t dead m q =
+pub widen-start : (t dead : List ℤ) (m : ℕ) → length t ≡ tableWords → allRanged (readRecords m dead) ≡ true → Widen t dead m t 0
+widen-start t dead m l r =
     let e : m - 0 ≡ m = omega arith in
-    let l = q .total in
-    record {
-      has = q .store;
-      same-now = refl;
-      inside = omega arith;
-      total = omega arith;
-      table = q .table;
-      store-is = rw e;
-      table-is = rw e;
-      ranged = rw e (q .ranged);
-    }
+    record { inside = omega arith; table = l; table-is = rw e; ranged = rw e r }
 
-module _ (s₀ t₀ dead : List ℤ) (m : ℕ) (s t : List ℤ) (j : ℕ) (p : Place s₀ t₀ dead m s t j) (h : j < m) (r : Record) (er : r ≡ recordFrom dead (recordWords * j)) where
+module _ (t₀ dead : List ℤ) (m : ℕ) (t : List ℤ) (j : ℕ) (p : Widen t₀ dead m t j) (h : j < m) (r : Record) (er : r ≡ recordFrom dead (recordWords * j)) where
   rest-here : readRecords (m - j) (drop (recordWords * j) dead) ≡ r ∷ readRecords (m - (j + 1)) (drop (recordWords * (j + 1)) dead)
   rest-here = rest-at m j dead h ∙ ap (λ (a : Record). a ∷ readRecords (m - (j + 1)) (drop (recordWords * (j + 1)) dead)) (sym er)
 
-  pub placed-in-range : isRanged r ≡ true
-  unfolding allRanged
-  placed-in-range =
-      let rest = readRecords (m - (j + 1)) (drop (recordWords * (j + 1)) dead) in
-      let x : allRanged (r ∷ rest) ≡ true = rw rest-here at (p .ranged) in
-      and-left (isRanged r) (allRanged rest) x
+  rest-ranged : allRanged (r ∷ readRecords (m - (j + 1)) (drop (recordWords * (j + 1)) dead)) ≡ true
+  rest-ranged = rw rest-here at (p .ranged)
 
-  pub place-more : (s′ : List ℤ) → s′ ≡ storeOf (nowOf s) (inserted r (recordsOf s)) → (t′ : List ℤ) → t′ ≡ withSpeed t (slotOfKey (r .key)) (numberOfKey (r .key)) (r .report .vx) (r .report .vy) → Place s₀ t₀ dead m s′ t′ (j + 1)
-  unfolding insertedAll withSpeeds allRanged
-  place-more s′ es t′ et =
+  pub widen-in-range : isRanged r ≡ true
+  unfolding allRanged
+  widen-in-range = and-left (isRanged r) (allRanged (readRecords (m - (j + 1)) (drop (recordWords * (j + 1)) dead))) rest-ranged
+
+  pub widen-more : (t′ : List ℤ) → t′ ≡ withSpeed t (slotOfKey (r .key)) (numberOfKey (r .key)) (r .report .vx) (r .report .vy) → Widen t₀ dead m t′ (j + 1)
+  unfolding withSpeeds allRanged
+  widen-more t′ et =
       let rest = readRecords (m - (j + 1)) (drop (recordWords * (j + 1)) dead) in
-      let rs = recordsOf s in
-      let new = inserted r rs in
-      let n = inserted-length r rs in
-      let a = p .total in
-      let rs′ = records-are (nowOf s) new s′ es in
-      let l : length (recordsOf s′) ≡ length new = ap length rs′ in
-      let x : allRanged (r ∷ rest) ≡ true = rw rest-here at (p .ranged) in
       record {
-        has = words-of (nowOf s) new s′ es (omega arith);
-        same-now = now-is (nowOf s) new s′ es ∙ p .same-now;
         inside = omega arith;
-        total = omega arith;
         table = ap length et ∙ table-length t (slotOfKey (r .key)) (numberOfKey (r .key)) (r .report .vx) (r .report .vy) ∙ p .table;
-        store-is = p .store-is ∙ ap (λ (q : List Record). insertedAll q rs) rest-here ∙ ap (insertedAll rest) (sym rs′);
         table-is = p .table-is ∙ ap (withSpeeds t) rest-here ∙ ap (λ (q : List ℤ). withSpeeds q rest) (sym et);
-        ranged = and-right (isRanged r) (allRanged rest) x;
+        ranged = and-right (isRanged r) (allRanged rest) rest-ranged;
       }
 
 no-records : (n : ℕ) (w : List ℤ) → n ≡ 0 → readRecords n w ≡ []
@@ -383,12 +359,18 @@ speeds-none : (t : List ℤ) → withSpeeds t [] ≡ t
 unfolding withSpeeds
 speeds-none t = refl
 
-pub place-end : (s₀ t₀ dead : List ℤ) (m : ℕ) (s t : List ℤ) (j : ℕ) → Place s₀ t₀ dead m s t j → m ≤ j → (s ≡ storeOf (nowOf s₀) (insertedAll (readRecords m dead) (recordsOf s₀))) × (t ≡ withSpeeds t₀ (readRecords m dead))
-place-end s₀ t₀ dead m s t j p h =
+pub widen-end : (t₀ dead : List ℤ) (m : ℕ) (t : List ℤ) (j : ℕ) → Widen t₀ dead m t j → m ≤ j → t ≡ withSpeeds t₀ (readRecords m dead)
+widen-end t₀ dead m t j p h =
     let none : readRecords (m - j) (drop (recordWords * j) dead) ≡ [] = no-records (m - j) (drop (recordWords * j) dead) (omega arith) in
-    let a : insertedAll (readRecords m dead) (recordsOf s₀) ≡ recordsOf s = p .store-is ∙ ap (λ (q : List Record). insertedAll q (recordsOf s)) none ∙ inserted-none (recordsOf s) in
-    let b : withSpeeds t₀ (readRecords m dead) ≡ t = p .table-is ∙ ap (withSpeeds t) none ∙ speeds-none t in
-    (p .has .words ∙ (λ k. storeOf (p .same-now k) (sym a k)), sym b)
+    sym (p .table-is ∙ ap (withSpeeds t) none ∙ speeds-none t)
+
+-- nothing to place
+pub none-stored : (s dead : List ℤ) (m : ℕ) → HasWords s → m ≡ 0 → s ≡ storeOf (nowOf s) (insertedAll (readRecords m dead) (recordsOf s))
+none-stored s dead m q e =
+    q .words ∙ ap (storeOf (nowOf s)) (sym (ap (λ (l : List Record). insertedAll l (recordsOf s)) (no-records m dead e) ∙ inserted-none (recordsOf s)))
+
+pub none-widened : (t dead : List ℤ) (m : ℕ) → m ≡ 0 → t ≡ withSpeeds t (readRecords m dead)
+none-widened t dead m e = sym (ap (withSpeeds t) (no-records m dead e) ∙ speeds-none t)
 
 -- ---- the two halves of a step
 

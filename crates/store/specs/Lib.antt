@@ -4,3 +4,4 @@ pub mod Soundness
 pub mod Changes
 pub mod Reading
 pub mod Walks
+pub mod Merging

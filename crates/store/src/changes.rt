@@ -11,10 +11,11 @@ ghost use Rattle.grid.specs.Reports.{isTime, inRange};
 ghost use Rattle.rows.specs.Table.{tableWords, withSpeed};
 ghost use Rattle.store.specs.Records.{recordWords, nowOf, heldOf, readRecords, recordsOf, wordsOf, storeOf};
 ghost use Rattle.store.specs.Order.{slotOfKey, numberOfKey, precedes, hasId};
-ghost use Rattle.store.specs.Soundness.{isRanged, IsStore};
+ghost use Rattle.store.specs.Soundness.{isRanged, allRanged, IsStore};
 ghost use Rattle.store.specs.Changes.{inserted, insertedAll, removed, placedIn, livesOn, kept, replaced, steppedRecords, withSpeeds};
 ghost use Rattle.store.specs.Walks.{HasWords, placeOf, indexOf, KeptFirst, Taken, PlaceAsked};
 use super::opening::clear;
+use super::sorting::put_all;
 use super::soundness::is_same;
 use super::soundness::key_in;
 use super::soundness::narrow;
@@ -71,7 +72,7 @@ pub fn has_id(store: &[i32], id: i32) -> bool
 }
 
 // Writes a record over the seven words at k.
-fn write_record(words: &mut [i32], k: usize, r: Record)
+pub fn write_record(words: &mut [i32], k: usize, r: Record)
     requires { ⌜ k + recordWords ≤ length (now words) ⌝ }
     ensures { λ u. ⌜ now (words .exit) ≡ take k (now (words .entry)) ++ (wordsOf r ++ drop (k + recordWords) (now (words .entry))) ⌝ }
 {
@@ -147,7 +148,7 @@ fn close_up(words: &mut [i32])
 }
 
 // Sets the count of floats held, in record 0.
-fn set_held(store: &mut [i32], n: usize)
+pub fn set_held(store: &mut [i32], n: usize)
     requires { ⌜ (1 < length (now store)) × (n ≤ capacity) ⌝ }
     ensures { λ u. ⌜ now (store .exit) ≡ set (now (store .entry)) 1 (pos n) ⌝ }
 {
@@ -287,19 +288,29 @@ pub fn widen(table: &mut [i16], r: Record)
     widen_row(table, slot_of_key(r.key), number_of_key(r.key), vx, vy);
 }
 
+// Widens the row of each of the first m records of `dead`.
+fn widen_all(table: &mut [i16], dead: &[i32], m: usize)
+    requires { ⌜ (length (now table) ≡ tableWords) × (recordWords * m ≤ length (now dead)) × (allRanged (readRecords m (now dead)) ≡ true) ⌝ }
+    ensures { λ u. ⌜ now (table .exit) ≡ withSpeeds (now (table .entry)) (readRecords m (now (dead .entry))) ⌝ }
+{
+    let mut j = 0;
+    while j < m {
+        widen(table, Record::read_from(dead, RECORD_WORDS * j));
+        j += 1;
+    }
+}
+
 // Puts the first m records of `dead` into the store, and widens the row of each.
 fn place_dead(store: &mut [i32], table: &mut [i16], dead: &[i32], m: usize)
     requires { ⌜ PlaceAsked (now store) (now table) (now dead) m ⌝ }
     ensures { λ u. ⌜ now (store .exit) ≡ storeOf (nowOf (now (store .entry))) (insertedAll (readRecords m (now (dead .entry))) (recordsOf (now (store .entry)))) ⌝ }
     ensures { λ u. ⌜ now (table .exit) ≡ withSpeeds (now (table .entry)) (readRecords m (now (dead .entry))) ⌝ }
 {
-    let mut j = 0;
-    while j < m {
-        let r = Record::read_from(dead, RECORD_WORDS * j);
-        put(store, r);
-        widen(table, r);
-        j += 1;
+    if m == 0 {
+        return;
     }
+    widen_all(table, dead, m);
+    put_all(store, dead, m);
 }
 
 // The current phase goes from c to later: the records that do not live on are placed in the phase `later`, and the row of each is widened.

@@ -8,6 +8,7 @@ use grid::Report;
 pub mod changes;
 pub mod opening;
 pub mod reading;
+pub mod sorting;
 pub mod soundness;
 
 // The words of a record, and of the store.
