@@ -4,10 +4,10 @@ ghost use mathlib.Core.Path.{_≡_};
 ghost use Rattle.engine.specs.Index.{openOut, clockOut, addOut, reportOut, dropOut, askOut};
 ghost use Rattle.engine.specs.Gives.{Gives, GivesList};
 
-pub mod asking;
-pub mod checks;
+mod asking;
+mod checks;
 pub mod sound;
-pub mod step;
+mod step;
 
 use grid::Rect;
 use grid::Report;

@@ -122,7 +122,7 @@ pub record Takes (b : ℕ) (store table store′ table′ : List ℤ) (line line
   pub writes : (s : Session) → Stands s store table line (at .held) → take (at′ .filled) out′ ≡ take (at .filled) out ++ writing s b
   pub fits : at′ .filled ≤ length out′
 
--- the first `taken` bytes of a chunk taken: all of them unless the answers filled their room
+-- the first `taken` bytes of a chunk taken, one at least where there is one; the caller goes on from there
 pub record Feeds (chunk : List ℕ) (store table store′ table′ : List ℤ) (line line′ out′ : List ℕ) (used : ℕ) (fed : Fed) : Type 0 where
   pub stands : (s : Session) → Stands s store table line used → Stands (sessionAfter s (take (fed .taken) chunk)) store′ table′ line′ (fed .held)
   pub writes : (s : Session) → Stands s store table line used → take (fed .filled) out′ ≡ writtenFor s (take (fed .taken) chunk)
@@ -143,7 +143,7 @@ pub record InSession (store table : List ℤ) (list line : List ℕ) (used : ℕ
   pub stands : Stands session store table line used
   pub list-long : length list ≡ listLength
 
--- a chunk taken: all of it unless a write failed
+-- a chunk taken, all of it where `more` is true. That only a failed write makes it false is no part of this: what `write` did has no definition
 pub record TakesChunk (chunk : List ℕ) (store table store′ table′ : List ℤ) (list′ line line′ : List ℕ) (used : ℕ) (turn : Turn) : Type 0 where
   pub goes-on : InSession store′ table′ list′ line′ (turn .held)
   pub stands : turn .more ≡ true → (s : Session) → Stands s store table line used → Stands (sessionAfter s chunk) store′ table′ line′ (turn .held)
