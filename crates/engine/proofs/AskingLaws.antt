@@ -8,7 +8,7 @@ use native.Mathlib.Omega.{arith}
 use borrow.Author.Tests.{not-false, eq-eqb, lt-ltb, le-ltb}
 use lib.Dec.{ltb}
 use lib.IntN.{ℤ, pos, natAbs}
-use lib.ListN.{length, drop, replicate, length-replicate}
+use lib.ListN.{length, drop, length-replicate}
 use lib.Signed.{leZ}
 use Rattle.ints.specs.Whole.{up, between}
 use Rattle.ints.proofs.Parts.{abs, one-part}
@@ -22,15 +22,15 @@ use Rattle.rows.proofs.RowLaws.{empty-valid}
 use Rattle.rows.proofs.PhaseLaws.{slot-on, live-range}
 use Rattle.methods.specs.Methods.{Rows, Found, missing, found, boundsIn, naiveBlock, iterated, iterativeSearch, choice}
 use Rattle.methods.specs.Chosen.{IsSlot, IsAsk, ChosenBy, rowsOfSlot}
-use Rattle.methods.proofs.ChosenLaws.{length-with}
 use Rattle.methods.specs.declared.Block.{Block}
 use Rattle.methods.proofs.Nesting.{next}
 use Rattle.methods.proofs.Rounds.{none-is, same-is, onward-is}
 use Rattle.store.specs.Records.{storeWords, nowOf, recordsOf}
 use Rattle.rows.specs.Table.{tableWords}
 use Rattle.store.specs.Soundness.{IsStore}
-use Rattle.store.specs.Reading.{ReadingOf, inSet, hasKey, listedIn, isRead, cellsIn, usefulIn, withIds, rising}
+use Rattle.store.specs.Reading.{ReadingOf, SmallReading, inSet, hasKey, listedIn, isRead, cellsIn, usefulIn, withIds, rising}
 use Rattle.store.specs.declared.Record.{Record}
+use Rattle.store.specs.declared.reading.Reading.{Reading}
 use Rattle.store.proofs.SoundLaws as Sound
 use Rattle.store.proofs.SoundLawsRanges.{between-from, last-phase}
 use Rattle.ledger.specs.Refusals.{check, firstToFail, isRectangle, badAskTime, badAsk}
@@ -41,7 +41,7 @@ use Rattle.ledger.specs.Machine.{summed}
 use Rattle.engine.specs.Index.{wrongLength, unsound, lentChecks, listedOf, foundIn, phasesNow, idsNeeded, idsFound, cellsCounted, usefulCounted, roundsCounted, askAnswer, askOut}
 use Rattle.engine.proofs.CheckLaws.{fails, passes, accepts}
 use Rattle.engine.proofs.ListIsExact.{list-is-exact}
-use Rattle.engine.specs.Counted.{SmallCounts, CountedIn, CountedOver}
+use Rattle.engine.specs.Counted.{CanChoose, CanRead, ReadIn, SmallCounts, CountedTogether, CountedIn, CountedOver}
 use Rattle.engine.specs.declared.asking.Counts.{Counts}
 use Rattle.grid.specs.Units.{cells}
 use Rattle.engine.proofs.AskLaws.{FitAsk, fit-ask, asked-in}
@@ -57,16 +57,13 @@ module _ (s t : List ℤ) (method asked : ℤ) (q : Rect) (can : CanAsk s t meth
   pub ask-store : IsStore s
   ask-store = Sound.is-store s (parts .store)
 
-  pub ask-time : isTime asked ≡ true
+  ask-time : isTime asked ≡ true
   ask-time = not-false (isTime asked) (or-none (not (isTime asked)) _ (can .good-time))
-
-  pub small-time : natAbs asked ≤ 2 ^ 30
-  small-time = let f = between-from 0 999999999 asked ask-time in omega (arith, abs asked, one-part asked)
 
   numbers : between (pos 0) (pos 3) method && isRectangle q ≡ true
   numbers = not-false _ (can .good-numbers)
 
-  pub ask-method : between (pos 0) (pos 3) method ≡ true
+  ask-method : between (pos 0) (pos 3) method ≡ true
   ask-method = and-left _ (isRectangle q) numbers
 
   abbrev inSea : Bool
@@ -82,10 +79,10 @@ module _ (s t : List ℤ) (method asked : ℤ) (q : Rect) (can : CanAsk s t meth
   along-y : isPosition (q .y .low) && isPosition (q .y .high) ≡ true
   along-y = and-right (isPosition (q .x .low) && isPosition (q .x .high)) _ (and-left inSea _ rectangle)
 
-  pub is-slot : (p : ℕ) → IsSlot t (slotOf p)
+  is-slot : (p : ℕ) → IsSlot t (slotOf p)
   is-slot p = record { whole-table = parts .table-long; valid-rows = parts .valid; one-of-three = slot-on p }
 
-  pub is-ask : (p : ℕ) → isLive (phaseOf (nowOf s)) p ≡ true → IsAsk q (sinceReference p asked)
+  is-ask : (p : ℕ) → isLive (phaseOf (nowOf s)) p ≡ true → IsAsk q (sinceReference p asked)
   is-ask p live =
       let a = asked-in (nowOf s) asked q (parts .store .time) (fit-ask (nowOf s) method asked q (can .good-time) (can .good-numbers)) p live (λ c. emptyRow) (λ c on. empty-valid) in
       record {
@@ -99,8 +96,23 @@ module _ (s t : List ℤ) (method asked : ℤ) (q : Rect) (can : CanAsk s t meth
         not-late = a .not-late;
       }
 
-  pub small-phase : (p : ℕ) → isLive (phaseOf (nowOf s)) p ≡ true → p ≤ 277777
+  small-phase : (p : ℕ) → isLive (phaseOf (nowOf s)) p ≡ true → p ≤ 277777
   small-phase p live = let l = last-phase (nowOf s) (parts .store .time) in omega (arith, live-range (phaseOf (nowOf s)) p live)
+
+  pub can-choose : (p : ℕ) → isLive (phaseOf (nowOf s)) p ≡ true → CanChoose t method asked q p
+  can-choose p live = record {
+    slot = is-slot p;
+    ask = is-ask p live;
+    good-method = ask-method;
+    is-time = ask-time;
+    small-phase = small-phase p live;
+  }
+
+  pub can-read : (ids : List ℕ) → length ids ≡ 65536 → CanRead s asked ids
+  can-read ids h = record { is-store = ask-store; is-time = ask-time; all-marks = h }
+
+pub small-time : (asked : ℤ) → isTime asked ≡ true → natAbs asked ≤ 2 ^ 30
+small-time asked h = let f = between-from 0 999999999 asked h in omega (arith, abs asked, one-part asked)
 
 -- ---- bounds
 
@@ -152,33 +164,34 @@ module _ (rows : Rows) (q : Rect) (d : ℤ) where
 -- ---- what choosing and reading give back, together
 
 module _ (s t : List ℤ) (method : ℕ) (asked : ℤ) (q : Rect) (p : ℕ) (store : IsStore s) where
-  pub counted : (marks ids ids′ : List ℕ) (size rounds listed read useful : ℕ) → ChosenBy method t (slotOf p) q (sinceReference p asked) marks size rounds → ReadingOf marks (slotOf p) q asked (recordsOf s) listed read useful → ids′ ≡ withIds ids (listedIn marks (slotOf p) q asked (recordsOf s)) → CountedIn s t method asked q p ids ids′ (record { listed = listed; cells = read; useful = useful; rounds = rounds })
-  counted marks ids ids′ size rounds listed read useful c r f =
+  module _ (marks : List ℕ) (r : Reading) (read : ReadingOf marks (slotOf p) q asked (recordsOf s) r) where
+    small-reading : SmallReading 65536 r
+    small-reading = record {
+      few-listed = let h = few-listed marks (slotOf p) q asked (recordsOf s) in let k = store .few in let e = read .listed-are in omega arith;
+      few-cells = let h = few-cells marks 0 cells in let e = read .cells-are in omega arith;
+      few-useful = let h = few-useful (slotOf p) (listedIn marks (slotOf p) q asked (recordsOf s)) 0 cells in let e = read .useful-are in omega arith;
+    }
+
+  -- the set that was read is the one that was chosen
+  pub counted : (marks ids ids′ : List ℕ) (rounds : ℕ) (r : Reading) → ChosenBy method t (slotOf p) q (sinceReference p asked) marks rounds → ReadIn marks p q asked (recordsOf s) ids ids′ r → CountedIn s t method asked q p ids ids′ (record { read = r; rounds = rounds })
+  counted marks ids ids′ rounds r c h =
       let m = c .marks-are in
+      let read = h .reading-is in
       record {
-        listed-are = r .listed-are ∙ ap (λ (x : List ℕ). length (listedIn x (slotOf p) q asked (recordsOf s))) m;
-        cells-are = r .cells-are ∙ ap (λ (x : List ℕ). cellsIn x 0 cells) m;
-        useful-are = r .useful-are ∙ ap (λ (x : List ℕ). usefulIn (slotOf p) (listedIn x (slotOf p) q asked (recordsOf s)) 0 cells) m;
+        listed-are = read .listed-are ∙ ap (λ (x : List ℕ). length (listedIn x (slotOf p) q asked (recordsOf s))) m;
+        cells-are = read .cells-are ∙ ap (λ (x : List ℕ). cellsIn x 0 cells) m;
+        useful-are = read .useful-are ∙ ap (λ (x : List ℕ). usefulIn (slotOf p) (listedIn x (slotOf p) q asked (recordsOf s)) 0 cells) m;
         rounds-are = c .rounds-are;
-        found-are = f ∙ ap (λ (x : List ℕ). withIds ids (listedIn x (slotOf p) q asked (recordsOf s))) m;
+        found-are = h .found-are ∙ ap (λ (x : List ℕ). withIds ids (listedIn x (slotOf p) q asked (recordsOf s))) m;
         small = record {
-          few-listed = let h = few-listed marks (slotOf p) q asked (recordsOf s) in let k = store .few in let e = r .listed-are in omega arith;
-          few-cells = let h = few-cells marks 0 cells in let e = r .cells-are in omega arith;
-          few-useful = let h = few-useful (slotOf p) (listedIn marks (slotOf p) q asked (recordsOf s)) 0 cells in let e = r .useful-are in omega arith;
-          few-rounds = let h = few-rounds (rowsOfSlot t (slotOf p)) q (sinceReference p asked) method in let e = c .rounds-are in omega arith;
+          few-read = small-reading marks r read;
+          few-rounds = let k = few-rounds (rowsOfSlot t (slotOf p)) q (sinceReference p asked) method in let e = c .rounds-are in omega arith;
         };
       }
 
-pub marks-long : (method : ℕ) (t : List ℤ) (slot : ℕ) (q : Rect) (d : ℤ) (marks : List ℕ) (size rounds : ℕ) → ChosenBy method t slot q d marks size rounds → length marks ≡ cells
-marks-long method t slot q d marks size rounds c =
-    ap length (c .marks-are) ∙ (length-with (replicate cells 0) (choice method (rowsOfSlot t slot) q d .cells) ∙ length-replicate {A = ℕ} cells 0)
-
 -- ---- and over the live phases, which are one, two or three
 
-abbrev Sum : Counts → Counts → Counts → Type 0
-Sum a b r = (r .listed ≡ a .listed + b .listed) × (r .cells ≡ a .cells + b .cells) × (r .useful ≡ a .useful + b .useful) × (r .rounds ≡ a .rounds + b .rounds)
-
-pub sum-small : (a b r : Counts) → SmallCounts 65536 a → SmallCounts 65536 b → Sum a b r → SmallCounts 1000000 r
+pub sum-small : (a b r : Counts) → SmallCounts 65536 a → SmallCounts 65536 b → CountedTogether a b r → SmallCounts 1000000 r
 sum-small a b r x y e = omega arith
 
 pub small-room : (a : Counts) → SmallCounts 65536 a → SmallCounts 1000000 a
@@ -195,23 +208,23 @@ module _ (s t : List ℤ) (method : ℕ) (asked : ℤ) (q : Rect) where
     found-are = x .found-are;
   })
 
-  pub over-two : (ps : List ℕ) (p p′ : ℕ) → ps ≡ p ∷ p′ ∷ [] → (f g h : List ℕ) (a b r : Counts) → CountedIn s t method asked q p f g a → CountedIn s t method asked q p′ g h b → Sum a b r → CountedOver s t method asked q ps f h r
+  pub over-two : (ps : List ℕ) (p p′ : ℕ) → ps ≡ p ∷ p′ ∷ [] → (f g h : List ℕ) (a b r : Counts) → CountedIn s t method asked q p f g a → CountedIn s t method asked q p′ g h b → CountedTogether a b r → CountedOver s t method asked q ps f h r
   unfolding summed foundIn
   over-two ps p p′ e f g h a b r x y z = rw e (record {
-    listed-are = let i = x .listed-are in let j = y .listed-are in omega (arith, z .0);
-    cells-are = let i = x .cells-are in let j = y .cells-are in omega (arith, z .1);
-    useful-are = let i = x .useful-are in let j = y .useful-are in omega (arith, z .2);
-    rounds-are = let i = x .rounds-are in let j = y .rounds-are in omega (arith, z .3);
+    listed-are = let i = x .listed-are in let j = y .listed-are in omega (arith, z .read-sum .listed-sum);
+    cells-are = let i = x .cells-are in let j = y .cells-are in omega (arith, z .read-sum .cells-sum);
+    useful-are = let i = x .useful-are in let j = y .useful-are in omega (arith, z .read-sum .useful-sum);
+    rounds-are = let i = x .rounds-are in let j = y .rounds-are in omega (arith, z .rounds-sum);
     found-are = y .found-are ∙ ap (λ (l : List ℕ). withIds l (listedOf s t method asked q p′)) (x .found-are);
   })
 
-  pub over-three : (ps : List ℕ) (p p′ p″ : ℕ) → ps ≡ p ∷ p′ ∷ p″ ∷ [] → (f g h k : List ℕ) (a b c d r : Counts) → CountedIn s t method asked q p f g a → CountedIn s t method asked q p′ g h b → CountedIn s t method asked q p″ h k c → Sum a b d → Sum d c r → CountedOver s t method asked q ps f k r
+  pub over-three : (ps : List ℕ) (p p′ p″ : ℕ) → ps ≡ p ∷ p′ ∷ p″ ∷ [] → (f g h k : List ℕ) (a b c d r : Counts) → CountedIn s t method asked q p f g a → CountedIn s t method asked q p′ g h b → CountedIn s t method asked q p″ h k c → CountedTogether a b d → CountedTogether d c r → CountedOver s t method asked q ps f k r
   unfolding summed foundIn
   over-three ps p p′ p″ e f g h k a b c d r x y w z u = rw e (record {
-    listed-are = let i = x .listed-are in let j = y .listed-are in let l = w .listed-are in omega (arith, z .0, u .0);
-    cells-are = let i = x .cells-are in let j = y .cells-are in let l = w .cells-are in omega (arith, z .1, u .1);
-    useful-are = let i = x .useful-are in let j = y .useful-are in let l = w .useful-are in omega (arith, z .2, u .2);
-    rounds-are = let i = x .rounds-are in let j = y .rounds-are in let l = w .rounds-are in omega (arith, z .3, u .3);
+    listed-are = let i = x .listed-are in let j = y .listed-are in let l = w .listed-are in omega (arith, z .read-sum .listed-sum, u .read-sum .listed-sum);
+    cells-are = let i = x .cells-are in let j = y .cells-are in let l = w .cells-are in omega (arith, z .read-sum .cells-sum, u .read-sum .cells-sum);
+    useful-are = let i = x .useful-are in let j = y .useful-are in let l = w .useful-are in omega (arith, z .read-sum .useful-sum, u .read-sum .useful-sum);
+    rounds-are = let i = x .rounds-are in let j = y .rounds-are in let l = w .rounds-are in omega (arith, z .rounds-sum, u .rounds-sum);
     found-are = w .found-are ∙ ap (λ (l : List ℕ). withIds l (listedOf s t method asked q p″)) (y .found-are ∙ ap (λ (l : List ℕ). withIds l (listedOf s t method asked q p′)) (x .found-are));
   })
 
@@ -242,15 +255,15 @@ unfolding noIds
 no-ids-long = length-replicate {A = ℕ} 65536 0
 
 module _ (s t : List ℤ) (method asked : ℤ) (q : Rect) (can : CanAsk s t method asked q) (list ids : List ℕ) (c : Counts) (o : CountedOver s t (up method) asked q (phasesNow s t (up method) asked q) noIds ids c) where
-  needed : c .listed ≡ idsNeeded s t (up method) asked q
+  needed : c .read .listed ≡ idsNeeded s t (up method) asked q
   unfolding idsNeeded
   needed = o .listed-are
 
-  cells-are : c .cells ≡ cellsCounted s t (up method) asked q
+  cells-are : c .read .cells ≡ cellsCounted s t (up method) asked q
   unfolding cellsCounted
   cells-are = o .cells-are
 
-  useful-are : c .useful ≡ usefulCounted s t (up method) asked q
+  useful-are : c .read .useful ≡ usefulCounted s t (up method) asked q
   unfolding usefulCounted
   useful-are = o .useful-are
 
@@ -263,12 +276,12 @@ module _ (s t : List ℤ) (method asked : ℤ) (q : Rect) (can : CanAsk s t meth
   found-is = ap rising (o .found-are)
 
   -- the ids found are as many as are needed, since the list is exact
-  count-is : length (rising ids) ≡ c .listed
+  count-is : length (rising ids) ≡ c .read .listed
   count-is =
       let e = list-is-exact s t (can .sound) method asked q (can .good-time) (can .good-numbers) in
       ap length (found-is ∙ e .0) ∙ (sym (e .1) ∙ sym needed)
 
-  pub enough : c .listed ≤ length list → length (rising ids) ≤ length list
+  pub enough : c .read .listed ≤ length list → length (rising ids) ≤ length list
   enough h = omega (arith, count-is)
 
   right-length : wrongLength s t ≡ false
@@ -286,25 +299,25 @@ module _ (s t : List ℤ) (method asked : ℤ) (q : Rect) (can : CanAsk s t meth
       (passes (badAskTime (nowOf s) asked) BadTime _ accepted r (can .good-time)
       (passes (badAsk method q) BadNumber _ accepted r (can .good-numbers) h)))
 
-  short-answer : length list < c .listed → ListTooShort (c .listed) ≡ askAnswer s t method asked q (length list)
+  short-answer : length list < c .read .listed → ListTooShort (c .read .listed) ≡ askAnswer s t method asked q (length list)
   unfolding askAnswer
   short-answer h =
       rw needed
       (asked-answer _ _
       (fails (ltb (length list) (idsNeeded s t (up method) asked q)) (ListTooShort (idsNeeded s t (up method) asked q)) [] _ (lt-ltb (length list) (idsNeeded s t (up method) asked q) (omega (arith, needed)))))
 
-  full-answer : c .listed ≤ length list → Listed (c .listed) (c .cells) (c .useful) (c .rounds) ≡ askAnswer s t method asked q (length list)
+  full-answer : c .read .listed ≤ length list → Listed (c .read .listed) (c .read .cells) (c .read .useful) (c .rounds) ≡ askAnswer s t method asked q (length list)
   unfolding askAnswer
   full-answer h =
       rw (cells-are, useful-are, rounds-are, needed)
       (asked-answer _ _
       (passes (ltb (length list) (idsNeeded s t (up method) asked q)) (ListTooShort (idsNeeded s t (up method) asked q)) [] _ _ (le-ltb (length list) (idsNeeded s t (up method) asked q) (omega (arith, needed))) (accepts _ _ refl)))
 
-  pub short : length list < c .listed → GivesList (askOut s t method asked q list) (ListTooShort (c .listed)) list
+  pub short : length list < c .read .listed → GivesList (askOut s t method asked q list) (ListTooShort (c .read .listed)) list
   unfolding askOut
   short h = let e = short-answer h in record { answer-is = e; list-is = rw (← e) refl }
 
-  pub full : c .listed ≤ length list → (list′ : List ℕ) → list′ ≡ rising ids ++ drop (length (rising ids)) list → GivesList (askOut s t method asked q list) (Listed (c .listed) (c .cells) (c .useful) (c .rounds)) list′
+  pub full : c .read .listed ≤ length list → (list′ : List ℕ) → list′ ≡ rising ids ++ drop (length (rising ids)) list → GivesList (askOut s t method asked q list) (Listed (c .read .listed) (c .read .cells) (c .read .useful) (c .rounds)) list′
   unfolding askOut
   full h list′ w =
       let e = full-answer h in

@@ -1,16 +1,14 @@
--- The cells of a block: a cell is among them exactly when its column and its row are the block's, each stands once, and they are columns × rows.
+-- The cells of a block: a cell is among them exactly when its column and its row are the block's, and each stands once.
 -- The cells that the optimal method keeps are those of a list that it reaches, each once where the list has each once.
 -- Assumes nothing.
 use mathlib.Core.Path.{_≡_, refl, sym, ap, _∙_}
 use mathlib.Core.Bool.{Bool, true, false}
 use mathlib.Core.List.{List, [], _∷_, _++_, List·Memᴰ, List·Memᴰ·head, List·Memᴰ·tail, List·Memᴰ·cases-cons, List·Memᴰ·not-nil, List·Memᴰ·append-cases, Memᴰ·append-left, Memᴰ·append-right}
 use mathlib.Core.Logic.{_⊎_, inl, inr, ⊎-elim, dite, _↔_}
-use Prim.Native.Nat.{ℕ, zero, suc, _+_, _*_, _≤_, _<_}
+use Prim.Native.Nat.{ℕ, zero, suc, _+_, _≤_, _<_}
 use native.Mathlib.Decide.{ℕ-discrete}
-use native.Mathlib.Nat.{suc-mul}
 use native.Mathlib.Omega.{arith}
 use lib.IntN.{ℤ}
-use lib.ListN.{length, length-append}
 use Rattle.grid.specs.Places.{OnGrid}
 use Rattle.grid.specs.Curve.{cell}
 use Rattle.grid.specs.declared.Cell.{Cell}
@@ -124,24 +122,6 @@ rows-once b row (suc n) =
 pub cells-once : (b : Block) → Once (cellsOf b)
 unfolding cellsOf
 cells-once b = rows-once b (b .«first_row») (rowsOf b)
-
--- ---- how many
-
-pub row-length : (row column n : ℕ) → length (cellsOfRow row column n) ≡ n
-unfolding cellsOfRow
-row-length row column zero = refl
-row-length row column (suc n) = ap suc (row-length row (suc column) n)
-
-rows-length : (b : Block) (row n : ℕ) → length (cellsOfRows b row n) ≡ n * columnsOf b
-unfolding cellsOfRows
-rows-length b row zero = omega arith
-rows-length b row (suc n) =
-    let first = cellsOfRow row (b .«first_column») (columnsOf b) in
-    omega (arith, length-append first (cellsOfRows b (suc row) n), row-length row (b .«first_column») (columnsOf b), rows-length b (suc row) n, suc-mul n (columnsOf b))
-
-pub cells-length : (b : Block) → length (cellsOf b) ≡ rowsOf b * columnsOf b
-unfolding cellsOf
-cells-length b = rows-length b (b .«first_row») (rowsOf b)
 
 -- ---- the cells that are reached
 

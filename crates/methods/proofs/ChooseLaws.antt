@@ -96,14 +96,14 @@ expanded-found w q d {m} {b} e p =
 
 -- marking a block, or none
 module _ {before : List ℕ} {m : Bool} (b : Block) where
-  pub marked-missing : m ≡ true → Marked before (cellsFound (unlessMissing m b)) before 0
+  pub marked-missing : m ≡ true → Marked before (cellsFound (unlessMissing m b)) before
   marked-missing e = rw e (marked-none before)
 
-  pub marked-found : {after : List ℕ} {size : ℕ} → m ≡ false → Marked before (cellsOf b) after size → Marked before (cellsFound (unlessMissing m b)) after size
+  pub marked-found : {after : List ℕ} → m ≡ false → Marked before (cellsOf b) after → Marked before (cellsFound (unlessMissing m b)) after
   marked-found e k = rw e k
 
-pub marked-by : {before after : List ℕ} {size : ℕ} {r : FoundBlock} {f : Found} → FoundIs r f → Marked before (cellsFound (unlessMissing (r .missing) (r .block))) after size → Marked before (cellsFound f) after size
-marked-by {before} {after} {size} p k = subst (λ (g : Found). Marked before (cellsFound g) after size) (p .found-is) k
+pub marked-by : {before after : List ℕ} {r : FoundBlock} {f : Found} → FoundIs r f → Marked before (cellsFound (unlessMissing (r .missing) (r .block))) after → Marked before (cellsFound f) after
+marked-by {before} {after} p k = subst (λ (g : Found). Marked before (cellsFound g) after) (p .found-is) k
 
 -- what was found, by whether it is missing
 pub none-found : {r : FoundBlock} {f : Found} → FoundIs r f → r .missing ≡ true → f ≡ missing
@@ -119,35 +119,35 @@ found-by {r} q d e p = subst (λ (x : Row). FoundIs r (expandedBlock x q d)) e p
 -- ---- what each method chooses, where the naive block is b and no mark is set before
 
 module _ (t : List ℤ) (slot : ℕ) (q : Rect) (d : ℤ) (b : Block) (naive : naiveBlock (rowsOfSlot t slot) q d ≡ found b) {before : List ℕ} (clear : before ≡ noMarks) where
-  pub naive-chosen : {method : ℕ} {marks : List ℕ} {size : ℕ} → method ≡ 0 → Marked before (cellsOf b) marks size → ChosenBy method t slot q d marks size 0
+  pub naive-chosen : {method : ℕ} {marks : List ℕ} → method ≡ 0 → Marked before (cellsOf b) marks → ChosenBy method t slot q d marks 0
   unfolding choice noMarks
   naive-chosen e m =
-      rw e (record { marks-are = rw naive (rw clear at (m .marks-are)); size-is = rw naive (m .size-is); rounds-are = refl })
+      rw e (record { marks-are = rw naive (rw clear at (m .marks-are)); rounds-are = refl })
 
-  pub semi-naive-chosen : {method : ℕ} {marks : List ℕ} {size : ℕ} → method ≡ 1 → Marked before (cellsFound (expandedBlock (boundsIn (rowsOfSlot t slot) b) q d)) marks size → ChosenBy method t slot q d marks size 0
+  pub semi-naive-chosen : {method : ℕ} {marks : List ℕ} → method ≡ 1 → Marked before (cellsFound (expandedBlock (boundsIn (rowsOfSlot t slot) b) q d)) marks → ChosenBy method t slot q d marks 0
   unfolding choice noMarks
   semi-naive-chosen e m =
-      rw e (record { marks-are = rw naive (rw clear at (m .marks-are)); size-is = rw naive (m .size-is); rounds-are = refl })
+      rw e (record { marks-are = rw naive (rw clear at (m .marks-are)); rounds-are = refl })
 
-  pub iterative-chosen : {method : ℕ} {marks : List ℕ} {size rounds : ℕ} → method ≡ 2 → Marked before (cellsFound (iterated mostRounds (rowsOfSlot t slot) q d emptyRow b 0 .block)) marks size → rounds ≡ iterated mostRounds (rowsOfSlot t slot) q d emptyRow b 0 .rounds → ChosenBy method t slot q d marks size rounds
+  pub iterative-chosen : {method : ℕ} {marks : List ℕ} {rounds : ℕ} → method ≡ 2 → Marked before (cellsFound (iterated mostRounds (rowsOfSlot t slot) q d emptyRow b 0 .block)) marks → rounds ≡ iterated mostRounds (rowsOfSlot t slot) q d emptyRow b 0 .rounds → ChosenBy method t slot q d marks rounds
   unfolding choice noMarks
   iterative-chosen e m r =
-      rw e (record { marks-are = rw naive (rw clear at (m .marks-are)); size-is = rw naive (m .size-is); rounds-are = rw naive r })
+      rw e (record { marks-are = rw naive (rw clear at (m .marks-are)); rounds-are = rw naive r })
 
-  pub optimal-chosen : {method : ℕ} {marks : List ℕ} {size : ℕ} → method ≢ 0 → method ≢ 1 → method ≢ 2 → Marked before (reached (rowsOfSlot t slot) q d (cellsOf b)) marks size → ChosenBy method t slot q d marks size 0
+  pub optimal-chosen : {method : ℕ} {marks : List ℕ} → method ≢ 0 → method ≢ 1 → method ≢ 2 → Marked before (reached (rowsOfSlot t slot) q d (cellsOf b)) marks → ChosenBy method t slot q d marks 0
   unfolding choice noMarks
   optimal-chosen {method} x y z m =
       let n : method ≡ suc (suc (suc (method - 3))) = omega arith in
-      rw n (record { marks-are = rw naive (rw clear at (m .marks-are)); size-is = rw naive (m .size-is); rounds-are = refl })
+      rw n (record { marks-are = rw naive (rw clear at (m .marks-are)); rounds-are = refl })
 
 -- where bounds are missing, no method chooses a cell
-pub none-chosen : (method : ℕ) (t : List ℤ) (slot : ℕ) (q : Rect) (d : ℤ) {marks : List ℕ} → naiveBlock (rowsOfSlot t slot) q d ≡ missing → marks ≡ noMarks → ChosenBy method t slot q d marks 0 0
+pub none-chosen : (method : ℕ) (t : List ℤ) (slot : ℕ) (q : Rect) (d : ℤ) {marks : List ℕ} → naiveBlock (rowsOfSlot t slot) q d ≡ missing → marks ≡ noMarks → ChosenBy method t slot q d marks 0
 unfolding choice withCells reached noMarks
-none-chosen zero t slot q d naive e = record { marks-are = rw naive e; size-is = rw naive; rounds-are = refl }
-none-chosen (suc zero) t slot q d naive e = record { marks-are = rw naive e; size-is = rw naive; rounds-are = refl }
-none-chosen (suc (suc zero)) t slot q d naive e = record { marks-are = rw naive e; size-is = rw naive; rounds-are = rw naive }
-none-chosen (suc (suc (suc n))) t slot q d naive e = record { marks-are = rw naive e; size-is = rw naive; rounds-are = refl }
+none-chosen zero t slot q d naive e = record { marks-are = rw naive e; rounds-are = refl }
+none-chosen (suc zero) t slot q d naive e = record { marks-are = rw naive e; rounds-are = refl }
+none-chosen (suc (suc zero)) t slot q d naive e = record { marks-are = rw naive e; rounds-are = rw naive }
+none-chosen (suc (suc (suc n))) t slot q d naive e = record { marks-are = rw naive e; rounds-are = refl }
 
-pub chosen-held : {method : ℕ} {t : List ℤ} {slot : ℕ} {q : Rect} {marks : List ℕ} {size rounds : ℕ} (d : ℤ) → mag d < 2 ^ hbits w64 → ChosenBy method t slot q (back w64 d) marks size rounds → ChosenBy method t slot q d marks size rounds
-chosen-held {method} {t} {slot} {q} {marks} {size} {rounds} d h k =
-    subst (λ (z : ℤ). ChosenBy method t slot q z marks size rounds) (held w64 d h) k
+pub chosen-held : {method : ℕ} {t : List ℤ} {slot : ℕ} {q : Rect} {marks : List ℕ} {rounds : ℕ} (d : ℤ) → mag d < 2 ^ hbits w64 → ChosenBy method t slot q (back w64 d) marks rounds → ChosenBy method t slot q d marks rounds
+chosen-held {method} {t} {slot} {q} {marks} {rounds} d h k =
+    subst (λ (z : ℤ). ChosenBy method t slot q z marks rounds) (held w64 d h) k

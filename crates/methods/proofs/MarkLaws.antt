@@ -55,34 +55,23 @@ pub with-none : (marks : List ℕ) → withCells marks [] ≡ marks
 unfolding withCells
 with-none marks = refl
 
-pub marked-none : (marks : List ℕ) → Marked marks [] marks 0
-marked-none marks = record { marks-are = sym (with-none marks); size-is = refl }
+pub marked-none : (marks : List ℕ) → Marked marks [] marks
+marked-none marks = record { marks-are = sym (with-none marks) }
 
--- what is left of a list to mark, and to count
-pub record Left (marks₀ : List ℕ) (all : List Cell) (marks : List ℕ) (size : ℕ) (rest : List Cell) : Type 0 where
+-- what is left of a list to mark
+pub record Left (marks₀ : List ℕ) (all : List Cell) (marks : List ℕ) (rest : List Cell) : Type 0 where
   pub marks-left : withCells marks rest ≡ withCells marks₀ all
-  pub size-left : size + length rest ≡ length all
 
-pub left-all : (marks : List ℕ) (all : List Cell) → Left marks all marks 0 all
-left-all marks all = record { marks-left = refl; size-left = omega arith }
+pub left-all : (marks : List ℕ) (all : List Cell) → Left marks all marks all
+left-all marks all = record { marks-left = refl }
 
-module _ {marks₀ : List ℕ} {all : List Cell} {marks : List ℕ} {size : ℕ} {rest : List Cell} (l : Left marks₀ all marks size rest) where
-  pub left-fewer : (xs rest′ : List Cell) → rest ≡ xs ++ rest′ → size + length xs ≤ length all
-  left-fewer xs rest′ e = omega (arith, l .size-left, ap length e, length-append xs rest′)
+module _ {marks₀ : List ℕ} {all : List Cell} {marks : List ℕ} {rest : List Cell} (l : Left marks₀ all marks rest) where
+  pub left-next : (xs rest′ : List Cell) {after : List ℕ} → rest ≡ xs ++ rest′ → Marked marks xs after → Left marks₀ all after rest′
+  left-next xs rest′ e m =
+      record { marks-left = ap (λ (ys : List ℕ). withCells ys rest′) (m .marks-are) ∙ sym (with-append marks xs rest′) ∙ sym (ap (withCells marks) e) ∙ l .marks-left }
 
-  pub left-next : (xs rest′ : List Cell) {after : List ℕ} {n : ℕ} → rest ≡ xs ++ rest′ → Marked marks xs after n → Left marks₀ all after (size + n) rest′
-  left-next xs rest′ {after} {n} e m =
-      record {
-        marks-left = ap (λ (ys : List ℕ). withCells ys rest′) (m .marks-are) ∙ sym (with-append marks xs rest′) ∙ sym (ap (withCells marks) e) ∙ l .marks-left;
-        size-left = omega (arith, l .size-left, m .size-is, ap length e, length-append xs rest′);
-      }
-
-  pub left-none : rest ≡ [] → Marked marks₀ all marks size
-  left-none e =
-      record {
-        marks-are = sym (with-none marks) ∙ sym (ap (withCells marks) e) ∙ l .marks-left;
-        size-is = omega (arith, l .size-left, ap length e);
-      }
+  pub left-none : rest ≡ [] → Marked marks₀ all marks
+  left-none e = record { marks-are = sym (with-none marks) ∙ sym (ap (withCells marks) e) ∙ l .marks-left }
 
 -- ---- the cells that are reached
 
@@ -96,15 +85,6 @@ module _ (rows : Rows) (q : Rect) (d : ℤ) where
   reached-append [] ys = refl
   reached-append (x ∷ xs) ys =
       ap (keepIf (isReached rows q d x) x) (reached-append xs ys) ∙ kept-append (isReached rows q d x) x (reached rows q d xs) (reached rows q d ys)
-
-  pub reached-few : (cs : List Cell) → length (reached rows q d cs) ≤ length cs
-  unfolding reached
-  reached-few [] = omega arith
-  reached-few (c ∷ cs) = go (isReached rows q d c) (reached-few cs)
-    where
-      go : (t : Bool) → length (reached rows q d cs) ≤ length cs → length (keepIf t c (reached rows q d cs)) ≤ suc (length cs)
-      go true h = omega arith
-      go false h = omega arith
 
   -- as the loops pass them
   pub reached-row-before : (b : Block) (row column : ℕ) → column < b .«last_column» + 1 → reached rows q d (rowFrom b row column) ≡ reached rows q d (cell column row ∷ []) ++ reached rows q d (rowFrom b row (column + 1))
@@ -141,5 +121,5 @@ module _ (rows : Rows) (q : Rect) (d : ℤ) where
 pub ask-back : {q : Rect} {d : ℤ} → IsAsk q d → mag d < 2 ^ hbits w64 → IsAsk q (back w64 d)
 ask-back {q} {d} a h = rw (held w64 d h) a
 
-pub marked-held : {before after : List ℕ} {size : ℕ} (f : ℤ → List Cell) (d : ℤ) → mag d < 2 ^ hbits w64 → Marked before (f (back w64 d)) after size → Marked before (f d) after size
-marked-held {before} {after} {size} f d h m = subst (λ (z : ℤ). Marked before (f z) after size) (held w64 d h) m
+pub marked-held : {before after : List ℕ} (f : ℤ → List Cell) (d : ℤ) → mag d < 2 ^ hbits w64 → Marked before (f (back w64 d)) after → Marked before (f d) after
+marked-held {before} {after} f d h m = subst (λ (z : ℤ). Marked before (f z) after) (held w64 d h) m

@@ -5,16 +5,11 @@ use mathlib.Core.List.{List, [], _∷_, _++_}
 use mathlib.Core.Logic.{dite}
 use Prim.Native.Nat.{ℕ, suc, _+_, _-_, _≤_, _<_, min}
 use native.Mathlib.Decide.{decLe}
-use native.Mathlib.Nat.{mul-le-mul}
 use native.Mathlib.Omega.{arith}
-use lib.ListN.{length}
-use Rattle.grid.specs.Units.{side, cells}
 use Rattle.grid.specs.Curve.{cell}
 use Rattle.grid.specs.declared.Cell.{Cell}
-use Rattle.methods.specs.Reach.{columnsOf, rowsOf, cellsOfRow, cellsOfRows, cellsOf}
-use Rattle.methods.specs.Small.{BlockOnGrid}
+use Rattle.methods.specs.Reach.{rowsOf, cellsOfRow, cellsOfRows, cellsOf}
 use Rattle.methods.specs.declared.Block.{Block}
-use Rattle.methods.proofs.Blocks.{row-length, cells-length}
 
 -- ---- a row of cells
 
@@ -63,14 +58,3 @@ rows-whole b row h k =
     dite (decLe (b .«last_row» + 1) row)
     (λ l. rows-none b row l ∙ sym (rows-none b (b .«first_row») (omega arith)))
     (λ l. ap (rowsFrom b) (omega arith))
-
--- ---- how many
-
-pub row-few : (b : Block) (row : ℕ) → BlockOnGrid b → length (rowFrom b row (b .«first_column»)) ≤ side
-row-few b row on = omega (arith, row-length row (b .«first_column») (columnsOf b))
-
-pub cells-few : (b : Block) → BlockOnGrid b → length (cellsOf b) ≤ cells
-cells-few b on =
-    let h : rowsOf b ≤ side = omega arith in
-    let k : columnsOf b ≤ side = omega arith in
-    omega (arith, cells-length b, mul-le-mul h k)

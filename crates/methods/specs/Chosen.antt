@@ -46,8 +46,7 @@ pub record IsAsk (q : Rect) (d : ℤ) : Type 0 where
   pub not-early : leZ (negsuc 3599) d ≡ true
   pub not-late : leZ d (pos 17999) ≡ true
 
--- what choosing gives back: the marks of the chosen cells, how many they are, and the rounds
-pub record ChosenBy (method : ℕ) (t : List ℤ) (slot : ℕ) (q : Rect) (d : ℤ) (marks : List ℕ) (size rounds : ℕ) : Type 0 where
+-- what choosing gives back: the marks of the chosen cells and the rounds, and no count of the cells
+pub record ChosenBy (method : ℕ) (t : List ℤ) (slot : ℕ) (q : Rect) (d : ℤ) (marks : List ℕ) (rounds : ℕ) : Type 0 where
   pub marks-are : marks ≡ marksOf (choice method (rowsOfSlot t slot) q d .cells)
-  pub size-is : size ≡ length (choice method (rowsOfSlot t slot) q d .cells)
   pub rounds-are : rounds ≡ choice method (rowsOfSlot t slot) q d .rounds

@@ -3,7 +3,7 @@
 use mathlib.Core.Path.{_≡_}
 use mathlib.Core.List.{List}
 use Prim.Native.Nat.{ℕ}
-use lib.ListN.{length, replicate}
+use lib.ListN.{replicate}
 use Rattle.grid.specs.Units.{cells}
 use Rattle.grid.specs.declared.Cell.{Cell}
 use Rattle.methods.specs.Methods.{Found, unlessMissing, Search}
@@ -16,10 +16,9 @@ use Rattle.methods.specs.declared.Searched.{Searched}
 unfoldable pub noMarks : List ℕ
 noMarks = replicate cells 0
 
--- the marks of some cells are set, and their number is given back
-pub record Marked (before : List ℕ) (cs : List Cell) (after : List ℕ) (size : ℕ) : Type 0 where
+-- the marks of some cells are set
+pub record Marked (before : List ℕ) (cs : List Cell) (after : List ℕ) : Type 0 where
   pub marks-are : after ≡ withCells before cs
-  pub size-is : size ≡ length cs
 
 -- a block or none, as the code gives it back
 pub record FoundIs (r : FoundBlock) (f : Found) : Type 0 where

@@ -9,7 +9,6 @@ ghost use Rattle.methods.specs.Chosen.{rowsOfSlot, IsSlot, IsAsk, Chosen
 ghost use Rattle.methods.specs.Small.{BlockOnGrid};
 ghost use Rattle.methods.specs.Marked.{noMarks, Marked, FoundIs, SearchIs};
 use crate::Block;
-use crate::Chosen;
 use crate::FoundBlock;
 use crate::Searched;
 use crate::bounds::block_bounds;
@@ -36,15 +35,15 @@ fn expanded_block(bounds: Row, q: Rect, d: i64) -> FoundBlock
     }
 }
 
-// Marks the cells of a block, if there is one, and counts them.
-fn mark_found(f: FoundBlock, marks: &mut [u8]) -> usize
+// Marks the cells of a block, if there is one.
+fn mark_found(f: FoundBlock, marks: &mut [u8])
     requires { ⌜ BlockOnGrid (f .block) × (length (now marks) ≡ cells) ⌝ }
-    ensures { λ r. ⌜ Marked (now (marks .entry)) (cellsFound (unlessMissing (f .missing) (f .block))) (now (marks .exit)) r ⌝ }
+    ensures { λ u. ⌜ Marked (now (marks .entry)) (cellsFound (unlessMissing (f .missing) (f .block))) (now (marks .exit)) ⌝ }
 {
     if f.missing {
-        return 0;
+        return;
     }
-    mark_block(f.block, marks)
+    mark_block(f.block, marks);
 }
 
 // The rounds of the iterative method, from the naive block.
@@ -82,7 +81,7 @@ fn search(table: &[i16], slot: usize, q: Rect, d: i64, naive: Block) -> Searched
     }
 }
 
-// The choice of a method where the naive block is found: no mark is set yet.
+// The choice of a method where the naive block is found, and its rounds: no mark is set yet.
 fn choose_within(
     table: &[i16],
     slot: usize,
@@ -91,52 +90,38 @@ fn choose_within(
     d: i64,
     naive: Block,
     marks: &mut [u8],
-) -> Chosen
+) -> usize
     requires { ⌜ IsSlot (now table) slot × IsAsk q d × BlockOnGrid naive × (naiveBlock (rowsOfSlot (now table) slot) q d ≡ found naive) × (now marks ≡ noMarks) ⌝ }
-    ensures { λ r. ⌜ ChosenBy method (now (table .entry)) slot q d (now (marks .exit)) (r .size) (r .rounds) ⌝ }
+    ensures { λ r. ⌜ ChosenBy method (now (table .entry)) slot q d (now (marks .exit)) r ⌝ }
 {
     if method == 0 {
-        return Chosen {
-            size: mark_block(naive, marks),
-            rounds: 0,
-        };
+        mark_block(naive, marks);
+        return 0;
     }
     if method == 1 {
         let narrowed = expanded_block(block_bounds(table, slot, naive), q, d);
-        return Chosen {
-            size: mark_found(narrowed, marks),
-            rounds: 0,
-        };
+        mark_found(narrowed, marks);
+        return 0;
     }
     if method == 2 {
         let s = search(table, slot, q, d, naive);
-        return Chosen {
-            size: mark_found(s.found, marks),
-            rounds: s.rounds,
-        };
+        mark_found(s.found, marks);
+        return s.rounds;
     }
-    Chosen {
-        size: mark_reached(table, slot, naive, q, d, marks),
-        rounds: 0,
-    }
+    mark_reached(table, slot, naive, q, d, marks);
+    0
 }
 
-// The choice of a method, as marks by curve number. Every number from 3 on is the optimal method.
-pub fn choose(
-    table: &[i16],
-    slot: usize,
-    method: usize,
-    q: Rect,
-    d: i64,
-    marks: &mut [u8],
-) -> Chosen
+// The choice of a method, as marks by curve number, and its rounds. How many cells are marked is not given: cells are counted where they are read.
+// Every number from 3 on is the optimal method.
+pub fn choose(table: &[i16], slot: usize, method: usize, q: Rect, d: i64, marks: &mut [u8]) -> usize
     requires { ⌜ IsSlot (now table) slot × IsAsk q d × (length (now marks) ≡ cells) ⌝ }
-    ensures { λ r. ⌜ ChosenBy method (now (table .entry)) slot q d (now (marks .exit)) (r .size) (r .rounds) ⌝ }
+    ensures { λ r. ⌜ ChosenBy method (now (table .entry)) slot q d (now (marks .exit)) r ⌝ }
 {
     clear(marks);
     let naive = expanded_block(phase_bounds(table, slot), q, d);
     if naive.missing {
-        return Chosen { size: 0, rounds: 0 };
+        return 0;
     }
     choose_within(table, slot, method, q, d, naive.block, marks)
 }

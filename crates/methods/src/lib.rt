@@ -24,9 +24,3 @@ pub struct Searched {
     pub found: FoundBlock,
     pub rounds: usize,
 }
-
-// How many cells a method chose, and the rounds that it took.
-pub struct Chosen {
-    pub size: usize,
-    pub rounds: usize,
-}

@@ -38,13 +38,12 @@ fn mark_cell(numbers: &[u16; 1024], c: Cell, marks: &mut [u8])
     marks[n] = 1;
 }
 
-// Marks a block's cells of one row, and counts them.
-fn mark_row(numbers: &[u16; 1024], b: Block, row: usize, marks: &mut [u8]) -> usize
+// Marks a block's cells of one row.
+fn mark_row(numbers: &[u16; 1024], b: Block, row: usize, marks: &mut [u8])
     requires { ⌜ (IsCurve (now numbers)) × BlockOnGrid b × (row < side) × (length (now marks) ≡ cells) ⌝ }
-    ensures { λ r. ⌜ Marked (now (marks .entry)) (cellsOfRow row (b .«first_column») (columnsOf b)) (now (marks .exit)) r ⌝ }
+    ensures { λ u. ⌜ Marked (now (marks .entry)) (cellsOfRow row (b .«first_column») (columnsOf b)) (now (marks .exit)) ⌝ }
 {
     let mut column = b.first_column;
-    let mut size = 0;
     while column <= b.last_column {
         mark_cell(
             numbers,
@@ -54,25 +53,21 @@ fn mark_row(numbers: &[u16; 1024], b: Block, row: usize, marks: &mut [u8]) -> us
             },
             marks,
         );
-        size += 1;
         column += 1;
     }
-    size
 }
 
-// Marks a block's cells, and counts them.
-pub fn mark_block(b: Block, marks: &mut [u8]) -> usize
+// Marks a block's cells.
+pub fn mark_block(b: Block, marks: &mut [u8])
     requires { ⌜ BlockOnGrid b × (length (now marks) ≡ cells) ⌝ }
-    ensures { λ r. ⌜ Marked (now (marks .entry)) (cellsOf b) (now (marks .exit)) r ⌝ }
+    ensures { λ u. ⌜ Marked (now (marks .entry)) (cellsOf b) (now (marks .exit)) ⌝ }
 {
     let numbers = grid::curve_numbers();
     let mut row = b.first_row;
-    let mut size = 0;
     while row <= b.last_row {
-        size += mark_row(&numbers, b, row, marks);
+        mark_row(&numbers, b, row, marks);
         row += 1;
     }
-    size
 }
 
 // Whether a cell's row is nonempty and the cell, moved by the row's speeds over d, meets the rectangle.
@@ -94,7 +89,7 @@ pub fn is_reached(
     moved_cell_meets(c, row, q, d)
 }
 
-// Marks a cell if it is reached, and counts it.
+// Marks a cell if it is reached.
 fn mark_if_reached(
     numbers: &[u16; 1024],
     table: &[i16],
@@ -103,18 +98,17 @@ fn mark_if_reached(
     q: Rect,
     d: i64,
     marks: &mut [u8],
-) -> usize
+)
     requires { ⌜ (IsCurve (now numbers)) × IsSlot (now table) slot × IsAsk q d × OnGrid c × (length (now marks) ≡ cells) ⌝ }
-    ensures { λ r. ⌜ Marked (now (marks .entry)) (reached (rowsOfSlot (now (table .entry)) slot) q d (c ∷ [])) (now (marks .exit)) r ⌝ }
+    ensures { λ u. ⌜ Marked (now (marks .entry)) (reached (rowsOfSlot (now (table .entry)) slot) q d (c ∷ [])) (now (marks .exit)) ⌝ }
 {
     if !is_reached(numbers, table, slot, c, q, d) {
-        return 0;
+        return;
     }
     mark_cell(numbers, c, marks);
-    1
 }
 
-// Marks those of a block's cells of one row that are reached, and counts them.
+// Marks those of a block's cells of one row that are reached.
 fn mark_reached_in_row(
     numbers: &[u16; 1024],
     table: &[i16],
@@ -124,14 +118,13 @@ fn mark_reached_in_row(
     q: Rect,
     d: i64,
     marks: &mut [u8],
-) -> usize
+)
     requires { ⌜ (IsCurve (now numbers)) × IsSlot (now table) slot × IsAsk q d × BlockOnGrid b × (row < side) × (length (now marks) ≡ cells) ⌝ }
-    ensures { λ r. ⌜ Marked (now (marks .entry)) (reached (rowsOfSlot (now (table .entry)) slot) q d (cellsOfRow row (b .«first_column») (columnsOf b))) (now (marks .exit)) r ⌝ }
+    ensures { λ u. ⌜ Marked (now (marks .entry)) (reached (rowsOfSlot (now (table .entry)) slot) q d (cellsOfRow row (b .«first_column») (columnsOf b))) (now (marks .exit)) ⌝ }
 {
     let mut column = b.first_column;
-    let mut size = 0;
     while column < b.last_column + 1 {
-        size += mark_if_reached(
+        mark_if_reached(
             numbers,
             table,
             slot,
@@ -145,27 +138,17 @@ fn mark_reached_in_row(
         );
         column += 1;
     }
-    size
 }
 
-// Marks those of a block's cells that are reached, and counts them.
-pub fn mark_reached(
-    table: &[i16],
-    slot: usize,
-    b: Block,
-    q: Rect,
-    d: i64,
-    marks: &mut [u8],
-) -> usize
+// Marks those of a block's cells that are reached.
+pub fn mark_reached(table: &[i16], slot: usize, b: Block, q: Rect, d: i64, marks: &mut [u8])
     requires { ⌜ IsSlot (now table) slot × IsAsk q d × BlockOnGrid b × (length (now marks) ≡ cells) ⌝ }
-    ensures { λ r. ⌜ Marked (now (marks .entry)) (reached (rowsOfSlot (now (table .entry)) slot) q d (cellsOf b)) (now (marks .exit)) r ⌝ }
+    ensures { λ u. ⌜ Marked (now (marks .entry)) (reached (rowsOfSlot (now (table .entry)) slot) q d (cellsOf b)) (now (marks .exit)) ⌝ }
 {
     let numbers = grid::curve_numbers();
     let mut row = b.first_row;
-    let mut size = 0;
     while row < b.last_row + 1 {
-        size += mark_reached_in_row(&numbers, table, slot, b, row, q, d, marks);
+        mark_reached_in_row(&numbers, table, slot, b, row, q, d, marks);
         row += 1;
     }
-    size
 }

@@ -4,7 +4,7 @@
 use mathlib.Core.Path.{_≡_}
 use mathlib.Core.Bool.{Bool, true, false, _&&_, _||_, not, cond}
 use mathlib.Core.List.{List, [], _∷_}
-use Prim.Native.Nat.{ℕ, zero, suc, _+_, _*_}
+use Prim.Native.Nat.{ℕ, zero, suc, _+_, _*_, _≤_}
 use lib.Dec.{eqb}
 use lib.IntN.{ℤ, pos}
 use lib.ListN.{length, getD, set}
@@ -14,6 +14,7 @@ use Rattle.grid.specs.Reports.{isListed}
 use Rattle.grid.specs.declared.Rect.{Rect}
 use Rattle.store.specs.Order.{slotOfKey, numberOfKey}
 use Rattle.store.specs.declared.Record.{Record}
+use Rattle.store.specs.declared.reading.Reading.{Reading}
 
 -- a set of cells, by curve number: a mark that is not 0
 abbrev pub inSet : List ℕ → ℕ → Bool
@@ -56,10 +57,22 @@ withIds found [] = found
 withIds found (r ∷ rs) = withIds (set found (up (r .report .id)) 1) rs
 
 -- what reading gives back: floats listed, cells read, useful cells
-pub record ReadingOf (marks : List ℕ) (slot : ℕ) (q : Rect) (asked : ℤ) (rs : List Record) (listed cellsRead useful : ℕ) : Type 0 where
-  pub listed-are : listed ≡ length (listedIn marks slot q asked rs)
-  pub cells-are : cellsRead ≡ cellsIn marks 0 cells
-  pub useful-are : useful ≡ usefulIn slot (listedIn marks slot q asked rs) 0 cells
+pub record ReadingOf (marks : List ℕ) (slot : ℕ) (q : Rect) (asked : ℤ) (rs : List Record) (r : Reading) : Type 0 where
+  pub listed-are : r .listed ≡ length (listedIn marks slot q asked rs)
+  pub cells-are : r .cells ≡ cellsIn marks 0 cells
+  pub useful-are : r .useful ≡ usefulIn slot (listedIn marks slot q asked rs) 0 cells
+
+-- a reading none of whose counts is above `most`
+pub record SmallReading (most : ℕ) (r : Reading) : Type 0 where
+  pub few-listed : r .listed ≤ most
+  pub few-cells : r .cells ≤ most
+  pub few-useful : r .useful ≤ most
+
+-- two readings summed
+pub record ReadTogether (a b r : Reading) : Type 0 where
+  pub listed-sum : r .listed ≡ a .listed + b .listed
+  pub cells-sum : r .cells ≡ a .cells + b .cells
+  pub useful-sum : r .useful ≡ a .useful + b .useful
 
 -- the marked ids from `id` on, n of them, by rising number
 unfoldable pub risingFrom : List ℕ → ℕ → ℕ → List ℕ

@@ -103,7 +103,11 @@ plus-requires-2 c κs =
     (sum-small _ _ _ (first (j .before .before .before .before .before) .small) (second j .small) (u .plus .ensures), small-room _ (third k .small))
 
 same-length-3 : tie.Need-same-length-3
-same-length-3 c = search needs
+same-length-3 c =
+    let k = c .before .before .before in
+    let j = k .before .before .before .before .before .before in
+    let i = j .before .before .before .before .before in
+    k .ask-in3 .kept .1 .1 .1 .1 .1 .1 .0 ∙ (j .ask-in2 .kept .1 .1 .1 .1 .1 .1 .0 ∙ i .ask-in .kept .1 .1 .1 .1 .1 .1 .0)
 
 returns-3 : tie.Need-returns-3
 returns-3 c =

@@ -24,17 +24,26 @@ same-length c = search needs
 counted : (c : tie.After-ask-in-all) → CountedOver (c .before .before .before .before .args .store .now) (c .before .before .before .before .args .table .now) (up (c .before .before .before .before .args .method)) (c .before .before .before .before .args .asked) (c .before .before .before .before .args .q) (phasesNow (c .before .before .before .before .args .store .now) (c .before .before .before .before .args .table .now) (up (c .before .before .before .before .args .method)) (c .before .before .before .before .args .asked) (c .before .before .before .before .args .q)) noIds (c .ask-in-all .last .1 .1 .1 .1 .1 .0) (c .ask-in-all .result)
 counted c = let a = c .before .before .before .before in rw (held w32 (a .args .method) (search needs), held w32 (a .args .asked) (search needs), a .pre .1) at (c .ask-in-all .ensures)
 
+ids-needed-requires : tie.Need-ids-needed-requires
+ids-needed-requires c κs = search needs
+
 returns : tie.Need-returns
 returns c =
-    let i = c .before .before .before in
+    let n = c .before .ids-needed in
+    let i = c .before .before .before .before in
     let a = i .before .before .before .before in
-    short (a .args .store .now) (a .args .table .now) (a .args .method) (a .args .asked) (a .args .q) (a .pre .0) (a .args .list .now) (i .ask-in-all .last .1 .1 .1 .1 .1 .0) (i .ask-in-all .result) (counted i) (c .if1 .taken)
+    rw (n .ensures)
+    (short (a .args .store .now) (a .args .table .now) (a .args .method) (a .args .asked) (a .args .q) (a .pre .0) (a .args .list .now) (i .ask-in-all .last .1 .1 .1 .1 .1 .0) (i .ask-in-all .result) (counted i) (rw (n .ensures) at (c .if1 .taken)))
 
 rising-requires : tie.Need-rising-requires
 rising-requires c κs =
-    let i = c .before .before .before .before .before in
+    let e = c .before .before in
+    let i = e .before .before .before .before in
     let a = i .before .before .before .before in
-    (i .ask-in-all .kept .1 .1 .1 .1 .1 .0 ∙ (ap length (a .pre .1) ∙ no-ids-long), enough (a .args .store .now) (a .args .table .now) (a .args .method) (a .args .asked) (a .args .q) (a .pre .0) (a .args .list .now) (i .ask-in-all .last .1 .1 .1 .1 .1 .0) (i .ask-in-all .result) (counted i) (c .before .before .if1 .left))
+    (i .ask-in-all .kept .1 .1 .1 .1 .1 .0 ∙ (ap length (a .pre .1) ∙ no-ids-long), enough (a .args .store .now) (a .args .table .now) (a .args .method) (a .args .asked) (a .args .q) (a .pre .0) (a .args .list .now) (i .ask-in-all .last .1 .1 .1 .1 .1 .0) (i .ask-in-all .result) (counted i) (rw (e .before .ids-needed .ensures) at (e .if1 .left)))
+
+answer-requires : tie.Need-answer-requires
+answer-requires c κs = search needs
 
 same-length-2 : tie.Need-same-length-2
 same-length-2 c = search needs
@@ -44,10 +53,12 @@ same-length-3 c = search needs
 
 returns-2 : tie.Need-returns-2
 returns-2 c =
-    let r = c .before .before in
-    let i = r .before .before .before .before .before .before in
+    let r = c .before .before .before in
+    let e = r .before .before .before in
+    let i = e .before .before .before .before in
     let a = i .before .before .before .before in
-    full (a .args .store .now) (a .args .table .now) (a .args .method) (a .args .asked) (a .args .q) (a .pre .0) (a .args .list .now) (i .ask-in-all .last .1 .1 .1 .1 .1 .0) (i .ask-in-all .result) (counted i) (r .before .before .before .if1 .left) (r .rising .last .1 .0) (r .rising .ensures .1)
+    rw (c .answer .ensures)
+    (full (a .args .store .now) (a .args .table .now) (a .args .method) (a .args .asked) (a .args .q) (a .pre .0) (a .args .list .now) (i .ask-in-all .last .1 .1 .1 .1 .1 .0) (i .ask-in-all .result) (counted i) (rw (e .before .ids-needed .ensures) at (e .if1 .left)) (r .rising .last .1 .0) (r .rising .ensures .1))
 
 pub ask-with-spec : {M : Type 1} → statement M
-ask-with-spec = tie.close (tie.spec ask-in-all-requires same-length returns rising-requires same-length-2 same-length-3 returns-2)
+ask-with-spec = tie.close (tie.spec ask-in-all-requires ids-needed-requires same-length returns rising-requires answer-requires same-length-2 same-length-3 returns-2)

@@ -1,4 +1,4 @@
--- `methods::mark::mark_block` meets its contract. The invariant: the cells of the rows from `row` on are left to mark and to count. The measure is how
+-- `methods::mark::mark_block` meets its contract. The invariant: the cells of the rows from `row` on are left to mark. The measure is how
 -- many rows they are.
 -- Assumes nothing.
 use mathlib.Core.Path.{_≡_}
@@ -8,17 +8,17 @@ use denote.Ref.{now}
 use lib.ListN.{length}
 use Rattle.grid.specs.Units.{cells}
 use Rattle.methods.specs.Reach.{cellsOf}
-use Rattle.methods.proofs.Passes.{rowFrom, rowsFrom, rows-before, rows-none, cells-few}
-use Rattle.methods.proofs.MarkLaws.{Left, left-all, left-fewer, left-next, left-none}
+use Rattle.methods.proofs.Passes.{rowFrom, rowsFrom, rows-before, rows-none}
+use Rattle.methods.proofs.MarkLaws.{Left, left-all, left-next, left-none}
 use borrow.Author.Needs.{needs}
 use Rattle.methods.proofs.mark.mark_block.Statement.{statement}
 use Rattle.methods.proofs.mark.mark_block.Tie as tie
 
 abbrev Inv-loop : tie.InvT-loop
-Inv-loop b marks₀ numbers row₀ size₀ marks row size = (length marks ≡ cells) × Left marks₀ (cellsOf b) marks size (rowsFrom b row)
+Inv-loop b marks₀ numbers row₀ marks row = (length marks ≡ cells) × Left marks₀ (cellsOf b) marks (rowsFrom b row)
 
 abbrev μ-loop : tie.MeasureT-loop
-μ-loop b marks₀ numbers row₀ size₀ marks row size = b .«last_row» + 1 - row
+μ-loop b marks₀ numbers row₀ marks row = b .«last_row» + 1 - row
 
 curve-numbers-requires : tie.Need-curve-numbers-requires Inv-loop μ-loop
 curve-numbers-requires c κs = search needs
@@ -35,15 +35,6 @@ mark-row-requires c κs =
     let n = h .before in
     let a = n .before .before in
     (n .curve-numbers .ensures, a .pre .0, omega arith, h .loop .inv .0)
-
-add-size : tie.Need-add-size Inv-loop μ-loop
-add-size c =
-    let h = c .before .before .before .before .before .before .before in
-    let a = h .before .before .before in
-    let b = a .args .b in
-    let row = h .loop .row in
-    omega
-    (arith, cells-few b (a .pre .0), c .before .before .mark-row .ensures .size-is, left-fewer (h .loop .inv .1) (rowFrom b row (b .«first_column»)) (rowsFrom b (row + 1)) (rows-before b row (omega arith)))
 
 add-row : tie.Need-add-row Inv-loop μ-loop
 add-row c = omega arith
@@ -77,7 +68,6 @@ mark-block-spec =
     curve-numbers-requires
     loop-holds
     mark-row-requires
-    add-size
     add-row
     loop-less
     loop-again

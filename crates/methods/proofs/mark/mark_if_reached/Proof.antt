@@ -39,7 +39,7 @@ returns-2 c =
     let e = c .before .before .before .before in
     let a = e .before .before .before .args in
     rw (reached-one (rowsOfSlot (now (a .table)) (a .slot)) (a .q) (a .d) (a .c) (sym (test (e .before)) ∙ not-false (e .before .is-reached .result) (e .if1 .left)))
-    (record { marks-are = c .before .before .mark-cell .ensures; size-is = refl })
+    (record { marks-are = c .before .before .mark-cell .ensures })
 
 pub mark-if-reached-spec : {M : Type 1} → statement M
 mark-if-reached-spec =

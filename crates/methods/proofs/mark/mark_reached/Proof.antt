@@ -1,5 +1,4 @@
--- `methods::mark::mark_reached` meets its contract. The invariant: what is reached of the cells of the rows from `row` on is left to mark and to
--- count. The measure is how many rows are left.
+-- `methods::mark::mark_reached` meets its contract. The invariant: what is reached of the cells of the rows from `row` on is left to mark. The measure is how many rows are left.
 -- Assumes nothing.
 use mathlib.Core.Path.{_≡_}
 use lib.IntN.{ℤ}
@@ -14,19 +13,19 @@ use Rattle.grid.specs.Units.{cells}
 use Rattle.methods.specs.Reach.{cellsOf}
 use Rattle.methods.specs.Methods.{reached}
 use Rattle.methods.specs.Chosen.{rowsOfSlot}
-use Rattle.methods.proofs.Passes.{rowFrom, rowsFrom, cells-few}
-use Rattle.methods.proofs.MarkLaws.{Left, left-all, left-fewer, left-next, left-none, reached-few, reached-rows-before, reached-rows-none, ask-back, marked-held}
+use Rattle.methods.proofs.Passes.{rowFrom, rowsFrom}
+use Rattle.methods.proofs.MarkLaws.{Left, left-all, left-next, left-none, reached-rows-before, reached-rows-none, ask-back, marked-held}
 use borrow.Author.Needs.{needs}
 use Rattle.methods.proofs.mark.mark_reached.Statement.{statement}
 use Rattle.methods.proofs.mark.mark_reached.Tie as tie
 
 abbrev Inv-loop : tie.InvT-loop
-Inv-loop table slot b q d marks₀ numbers row₀ size₀ marks row size =
+Inv-loop table slot b q d marks₀ numbers row₀ marks row =
     (length marks ≡ cells)
-    × Left marks₀ (reached (rowsOfSlot table slot) q (toZ w64 d) (cellsOf b)) marks size (reached (rowsOfSlot table slot) q (toZ w64 d) (rowsFrom b row))
+    × Left marks₀ (reached (rowsOfSlot table slot) q (toZ w64 d) (cellsOf b)) marks (reached (rowsOfSlot table slot) q (toZ w64 d) (rowsFrom b row))
 
 abbrev μ-loop : tie.MeasureT-loop
-μ-loop table slot b q d marks₀ numbers row₀ size₀ marks row size = b .«last_row» + 1 - row
+μ-loop table slot b q d marks₀ numbers row₀ marks row = b .«last_row» + 1 - row
 
 curve-numbers-requires : tie.Need-curve-numbers-requires Inv-loop μ-loop
 curve-numbers-requires c κs = search needs
@@ -47,17 +46,6 @@ mark-reached-in-row-requires c κs =
     let n = h .before in
     let a = n .before .before in
     (n .curve-numbers .ensures, a .pre .0, ask-back (a .pre .1) (a .fits .d .sfits), a .pre .2, omega arith, h .loop .inv .0)
-
-add-size : tie.Need-add-size Inv-loop μ-loop
-add-size c =
-    let h = c .before .before .before .before .before .before .before in
-    let a = h .before .before .before in
-    let b = a .args .b in
-    let d = back w64 (a .args .d) in
-    let rows = rowsOfSlot (now (a .args .table)) (a .args .slot) in
-    let row = h .loop .row in
-    omega
-    (arith, cells-few b (a .pre .2), reached-few rows (a .args .q) d (cellsOf b), c .before .before .mark-reached-in-row .ensures .size-is, left-fewer (h .loop .inv .1) (reached rows (a .args .q) d (rowFrom b row (b .«first_column»))) (reached rows (a .args .q) d (rowsFrom b (row + 1))) (reached-rows-before rows (a .args .q) d b row (omega arith)))
 
 add-row : tie.Need-add-row Inv-loop μ-loop
 add-row c = omega arith
@@ -99,7 +87,6 @@ mark-reached-spec =
     loop-holds
     add-if1
     mark-reached-in-row-requires
-    add-size
     add-row
     loop-less
     loop-again

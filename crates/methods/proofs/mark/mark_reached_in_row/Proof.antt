@@ -1,5 +1,4 @@
--- `methods::mark::mark_reached_in_row` meets its contract. The invariant: what is reached of the cells from `column` on is left to mark and to
--- count. The measure is how many columns are left.
+-- `methods::mark::mark_reached_in_row` meets its contract. The invariant: what is reached of the cells from `column` on is left to mark. The measure is how many columns are left.
 -- Assumes nothing.
 use mathlib.Core.Path.{_≡_}
 use mathlib.Core.List.{[], _∷_}
@@ -15,19 +14,19 @@ use Rattle.grid.specs.Units.{cells}
 use Rattle.grid.specs.Curve.{cell}
 use Rattle.methods.specs.Methods.{reached}
 use Rattle.methods.specs.Chosen.{rowsOfSlot}
-use Rattle.methods.proofs.Passes.{rowFrom, row-few}
-use Rattle.methods.proofs.MarkLaws.{Left, left-all, left-fewer, left-next, left-none, reached-few, reached-row-before, reached-row-none, ask-back, marked-held}
+use Rattle.methods.proofs.Passes.{rowFrom}
+use Rattle.methods.proofs.MarkLaws.{Left, left-all, left-next, left-none, reached-row-before, reached-row-none, ask-back, marked-held}
 use borrow.Author.Needs.{needs}
 use Rattle.methods.proofs.mark.mark_reached_in_row.Statement.{statement}
 use Rattle.methods.proofs.mark.mark_reached_in_row.Tie as tie
 
 abbrev Inv-loop : tie.InvT-loop
-Inv-loop numbers table slot b row q d marks₀ column₀ size₀ marks column size =
+Inv-loop numbers table slot b row q d marks₀ column₀ marks column =
     (length marks ≡ cells)
-    × Left marks₀ (reached (rowsOfSlot table slot) q (toZ w64 d) (rowFrom b row column₀)) marks size (reached (rowsOfSlot table slot) q (toZ w64 d) (rowFrom b row column))
+    × Left marks₀ (reached (rowsOfSlot table slot) q (toZ w64 d) (rowFrom b row column₀)) marks (reached (rowsOfSlot table slot) q (toZ w64 d) (rowFrom b row column))
 
 abbrev μ-loop : tie.MeasureT-loop
-μ-loop numbers table slot b row q d marks₀ column₀ size₀ marks column size = b .«last_column» + 1 - column
+μ-loop numbers table slot b row q d marks₀ column₀ marks column = b .«last_column» + 1 - column
 
 loop-holds : tie.Need-loop-holds Inv-loop μ-loop
 loop-holds c =
@@ -43,17 +42,6 @@ mark-if-reached-requires c κs =
     let h = c .before .before .before in
     let a = h .before .before in
     (a .pre .0, a .pre .1, ask-back (a .pre .2) (a .fits .d .sfits), record { column-on = omega arith; row-on = a .pre .4 }, h .loop .inv .0)
-
-add-size : tie.Need-add-size Inv-loop μ-loop
-add-size c =
-    let h = c .before .before .before .before .before .before in
-    let a = h .before .before in
-    let b = a .args .b in
-    let d = back w64 (a .args .d) in
-    let rows = rowsOfSlot (now (a .args .table)) (a .args .slot) in
-    let column = h .loop .column in
-    omega
-    (arith, row-few b (a .args .row) (a .pre .3), reached-few rows (a .args .q) d (rowFrom b (a .args .row) (b .«first_column»)), c .before .before .mark-if-reached .ensures .size-is, left-fewer (h .loop .inv .1) (reached rows (a .args .q) d (cell column (a .args .row) ∷ [])) (reached rows (a .args .q) d (rowFrom b (a .args .row) (column + 1))) (reached-row-before rows (a .args .q) d b (a .args .row) column (omega arith)))
 
 add-column : tie.Need-add-column Inv-loop μ-loop
 add-column c = omega arith
@@ -94,7 +82,6 @@ mark-reached-in-row-spec =
     loop-holds
     add-if1
     mark-if-reached-requires
-    add-size
     add-column
     loop-less
     loop-again

@@ -1,4 +1,4 @@
--- `methods::mark::mark_row` meets its contract. The invariant: the cells from `column` on are left to mark and to count. The measure is how many they
+-- `methods::mark::mark_row` meets its contract. The invariant: the cells from `column` on are left to mark. The measure is how many they
 -- are.
 -- Assumes nothing.
 use mathlib.Core.Path.{_≡_, refl}
@@ -9,17 +9,17 @@ use denote.Ref.{now}
 use lib.ListN.{length}
 use Rattle.grid.specs.Units.{cells}
 use Rattle.grid.specs.Curve.{cell}
-use Rattle.methods.proofs.Passes.{rowFrom, row-before, row-none, row-few}
-use Rattle.methods.proofs.MarkLaws.{Left, left-all, left-fewer, left-next, left-none}
+use Rattle.methods.proofs.Passes.{rowFrom, row-before, row-none}
+use Rattle.methods.proofs.MarkLaws.{Left, left-all, left-next, left-none}
 use borrow.Author.Needs.{needs}
 use Rattle.methods.proofs.mark.mark_row.Statement.{statement}
 use Rattle.methods.proofs.mark.mark_row.Tie as tie
 
 abbrev Inv-loop : tie.InvT-loop
-Inv-loop numbers b row marks₀ column₀ size₀ marks column size = (length marks ≡ cells) × Left marks₀ (rowFrom b row column₀) marks size (rowFrom b row column)
+Inv-loop numbers b row marks₀ column₀ marks column = (length marks ≡ cells) × Left marks₀ (rowFrom b row column₀) marks (rowFrom b row column)
 
 abbrev μ-loop : tie.MeasureT-loop
-μ-loop numbers b row marks₀ column₀ size₀ marks column size = b .«last_column» + 1 - column
+μ-loop numbers b row marks₀ column₀ marks column = b .«last_column» + 1 - column
 
 loop-holds : tie.Need-loop-holds Inv-loop μ-loop
 loop-holds c =
@@ -31,15 +31,6 @@ mark-cell-requires c κs =
     let h = c .before .before .before in
     let a = h .before .before in
     (a .pre .0, record { column-on = omega arith; row-on = a .pre .2 }, h .loop .inv .0)
-
-add-size : tie.Need-add-size Inv-loop μ-loop
-add-size c =
-    let h = c .before .before .before .before .before .before in
-    let a = h .before .before in
-    let b = a .args .b in
-    let column = h .loop .column in
-    omega
-    (arith, row-few b (a .args .row) (a .pre .1), left-fewer (h .loop .inv .1) (cell column (a .args .row) ∷ []) (rowFrom b (a .args .row) (column + 1)) (row-before b (a .args .row) column (omega arith)))
 
 add-column : tie.Need-add-column Inv-loop μ-loop
 add-column c = omega arith
@@ -55,7 +46,7 @@ loop-again c =
     let column = h .loop .column in (
       search needs,
       left-next (h .loop .inv .1) (cell column (a .args .row) ∷ []) (rowFrom b (a .args .row) (column + 1)) (row-before b (a .args .row) column (omega arith))
-          (record { marks-are = c .before .before .mark-cell .ensures; size-is = refl }),
+          (record { marks-are = c .before .before .mark-cell .ensures }),
     )
 
 same-length : tie.Need-same-length Inv-loop μ-loop
@@ -75,7 +66,6 @@ mark-row-spec =
     μ-loop
     loop-holds
     mark-cell-requires
-    add-size
     add-column
     loop-less
     loop-again
