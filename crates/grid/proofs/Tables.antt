@@ -1,4 +1,4 @@
--- The two tables of src/, as lists; tools/curve-tables writes both.
+-- The table of src/ as a list, and its inverse, by which the computed test shows one visit for each cell; tools/curve-tables writes both.
 -- Assumes nothing.
 use mathlib.Core.List.{List, [], _∷_}
 use Prim.Native.Nat.{ℕ}

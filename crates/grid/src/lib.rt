@@ -1,19 +1,16 @@
-// The grid of document 01: the column and row of a position, the cell with a curve number, and where a float is after some seconds.
+// The grid of document 01: the column and row of a position, the curve number of a cell, and where a float is after some seconds.
 // Positions are centimetres, speeds centimetres per second, times seconds.
 ghost use mathlib.Core.Path.{_≡_};
-ghost use Prim.Native.Nat.{_<_, _≤_, _^_};
+ghost use Prim.Native.Nat.{_≤_, _^_};
 ghost use lib.IntN.{natAbs, _-ℤ_};
-ghost use Rattle.grid.specs.Units.{cells};
 ghost use Rattle.grid.specs.Places.{positionAfter, columnOf, rowOf, cellOf, OnGrid};
-ghost use Rattle.grid.specs.Curve.{curveNumber, cellOfNumber, IsCurve};
+ghost use Rattle.grid.specs.Curve.{curveNumber, IsCurve};
 ghost use Rattle.grid.specs.Reports.{inRange, xAt, yAt, cellAtTime, inRect, isListed};
 ghost use Rattle.grid.specs.Small.{SmallAxis, SmallReport};
 ghost use Rattle.ints.specs.Whole.{between};
 
-mod cell_table;
 mod curve_table;
 
-use cell_table::CELL;
 use curve_table::CURVE;
 
 // Columns on the grid, and rows.
@@ -107,17 +104,6 @@ pub fn number_in(numbers: &[u16; 1024], c: Cell) -> usize
     ensures { λ r. ⌜ r ≡ curveNumber c ⌝ }
 {
     wide(numbers[c.row * SIDE + c.column])
-}
-
-pub fn cell_of_number(n: usize) -> Cell
-    requires { ⌜ n < cells ⌝ }
-    ensures { λ r. ⌜ r ≡ cellOfNumber n ⌝ }
-{
-    let place = wide(CELL[n]);
-    Cell {
-        column: place % SIDE,
-        row: place / SIDE,
-    }
 }
 
 fn wide_signed(z: i32) -> i64

@@ -26,10 +26,10 @@ const LAST_ID: i32 = 65535;
 // The greatest position, in centimetres.
 const LAST_POSITION: i32 = 8388607;
 
-// The least and the greatest speed along an axis, in centimetres per second.
-const LEAST_SPEED: i32 = -500;
+// The least and the greatest speed along an axis, in centimetres per second: a row's limit.
+const GREATEST_SPEED: i32 = Row::LIMIT as i32;
 
-const GREATEST_SPEED: i32 = 500;
+const LEAST_SPEED: i32 = -GREATEST_SPEED;
 
 // The last time, in seconds.
 const LAST_TIME: i32 = 999999999;
