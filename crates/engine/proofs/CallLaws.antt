@@ -4,13 +4,16 @@
 use mathlib.Core.Path.{_≡_, refl, sym, ap, ap₂, _∙_}
 use mathlib.Core.Bool.{Bool, true, false, _||_, not, cond}
 use mathlib.Core.List.{List, [], _∷_}
-use Prim.Native.Nat.{ℕ, suc, _≤_, _<_}
+use Prim.Native.Nat.{ℕ, suc, _≤_, _<_, _^_}
 use native.Mathlib.Omega.{arith}
 use lib.Dec.{eqb, leb}
 use lib.IntN.{ℤ}
 use lib.ListN.{length}
-use lib.Signed.{ltZ}
+use lib.Signed.{ltZ, mag}
+use mir.Syntax.{w32}
+use mir.Val.{hbits}
 use borrow.Author.Tests.{eqb-true, leb-false, not-false}
+use Rattle.ints.proofs.Machine.{back, held}
 use Rattle.ints.proofs.Parts.{signed, true-false}
 use Rattle.ints.proofs.Truth.{and-left, and-right}
 use Rattle.grid.specs.Units.{capacity}
@@ -32,7 +35,7 @@ use Rattle.ledger.specs.Refusals.{Check, check, unless, firstToFail, badStepTim
 use Rattle.ledger.specs.declared.Answer.{Answer}
 use Rattle.ledger.specs.declared.Answer.the-variants.{Accepted, WrongLength, Unsound, BadTime, BadNumber, AlreadyHeld, NotHeld, Full}
 use Rattle.engine.specs.Index.{settled, wrongLength, unsound, lentChecks, recordsAfterStep, tableAfterStep, widenedBy, askAnswer, askOut}
-use Rattle.engine.specs.Gives.{Gives, GivesList, CanStep, Stepped, CanPlace, Placed, CanAsk}
+use Rattle.engine.specs.Gives.{Gives, GivesList, CanStep, Stepped, CanPlace, Placed, TakenOut, CanAsk}
 use Rattle.engine.proofs.CheckLaws.{accepted-passed, lent-refused}
 use Rattle.engine.proofs.StepLaws.{store-of, is-store}
 
@@ -183,6 +186,10 @@ module _ (s t : List ℤ) (r : Report) (can : CanStep s t (r .t)) (s′ t′ : L
   pub placed-again : (s″ : List ℤ) → s″ ≡ storeOf (nowOf s′) (removed (r .id) (recordsOf s′)) → (s₂ t₂ : List ℤ) → Placed s″ t′ r s₂ t₂ → (s₂ ≡ storeOf (r .t) (inserted new (removed (r .id) (recordsAfterStep s (r .t))))) × (t₂ ≡ widenedBy (tableAfterStep s t (r .t)) new)
   placed-again s″ e s₂ t₂ p =
       (p .store-is ∙ ap₂ storeOf (left-now s t (r .t) can s′ t′ step (r .id) s″ e) (ap (inserted new) (left-are s t (r .t) can s′ t′ step (r .id) s″ e)), p .table-is ∙ ap (λ (x : List ℤ). widenedBy x new) (step .table-is))
+
+-- a record taken out by an id as a call passes it; the table is the one at entry
+pub taken-out : (s t s′ : List ℤ) (id : ℤ) → mag id < 2 ^ hbits w32 → s′ ≡ storeOf (nowOf s) (removed (back w32 id) (recordsOf s)) → TakenOut s t id s′ t
+taken-out s t s′ id h e = record { store-is = rw (held w32 id h) at e; table-is = refl }
 
 -- ---- what the later checks of add, report and drop say
 

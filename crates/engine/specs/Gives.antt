@@ -15,7 +15,7 @@ use Rattle.rows.specs.Phases.{phaseOf, isLive}
 use Rattle.rows.specs.Table.{tableWords, withNewlyLiveEmpty}
 use Rattle.store.specs.Records.{nowOf, recordsOf, storeOf}
 use Rattle.store.specs.Soundness.{isSound, IsStore}
-use Rattle.store.specs.Changes.{inserted, placedIn, steppedRecords, replaced, withSpeeds}
+use Rattle.store.specs.Changes.{inserted, removed, placedIn, steppedRecords, replaced, withSpeeds}
 use Rattle.ledger.specs.declared.Answer.{Answer}
 use Rattle.ledger.specs.Refusals.{badAskTime, badAsk}
 use Rattle.engine.specs.Index.{Outcome, AskOutcome, recordsAfterStep, tableAfterStep, widenedBy}
@@ -64,6 +64,11 @@ pub record CanPlace (s t : List ℤ) (r : Report) : Type 0 where
 pub record Placed (s t : List ℤ) (r : Report) (s′ t′ : List ℤ) : Type 0 where
   pub store-is : s′ ≡ storeOf (nowOf s) (inserted (placedIn (phaseOf (r .t)) r) (recordsOf s))
   pub table-is : t′ ≡ widenedBy t (placedIn (phaseOf (r .t)) r)
+
+-- the words after the float of an id was taken out: its row stays
+pub record TakenOut (s t : List ℤ) (id : ℤ) (s′ t′ : List ℤ) : Type 0 where
+  pub store-is : s′ ≡ storeOf (nowOf s) (removed id (recordsOf s))
+  pub table-is : t′ ≡ t
 
 -- a sound index and an ask whose numbers are good
 pub record CanAsk (s t : List ℤ) (method asked : ℤ) (q : Rect) : Type 0 where

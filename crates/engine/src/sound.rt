@@ -14,6 +14,7 @@ use crate::checks::is_accepted;
 use crate::checks::report_answer;
 use crate::step::place;
 use crate::step::step;
+use crate::step::take_out;
 use grid::Rect;
 use grid::Report;
 use ledger::Answer;
@@ -23,12 +24,12 @@ pub fn clock(store: &mut [i32], table: &mut [i16], t: i32) -> Answer
     requires { ⌜ isSound (now store) (now table) ≡ true ⌝ }
     ensures { λ r. ⌜ Gives (clockOut (now (store .entry)) (now (table .entry)) t) r (now (store .exit)) (now (table .exit)) ⌝ }
 {
-    let answer = clock_answer(&store[..], t);
-    if !is_accepted(answer) {
-        return answer;
+    let stepped = clock_answer(&store[..], t);
+    if !is_accepted(stepped) {
+        return stepped;
     }
     step(store, table, t);
-    answer
+    stepped
 }
 
 // A float that was not held sends its first report.
@@ -36,13 +37,13 @@ pub fn add(store: &mut [i32], table: &mut [i16], r: Report) -> Answer
     requires { ⌜ isSound (now store) (now table) ≡ true ⌝ }
     ensures { λ a. ⌜ Gives (addOut (now (store .entry)) (now (table .entry)) r) a (now (store .exit)) (now (table .exit)) ⌝ }
 {
-    let answer = add_answer(&store[..], r);
-    if !is_accepted(answer) {
-        return answer;
+    let added = add_answer(&store[..], r);
+    if !is_accepted(added) {
+        return added;
     }
     step(store, table, r.t);
     place(store, table, r);
-    answer
+    added
 }
 
 // A held float sends a new report.
@@ -50,14 +51,14 @@ pub fn report(store: &mut [i32], table: &mut [i16], r: Report) -> Answer
     requires { ⌜ isSound (now store) (now table) ≡ true ⌝ }
     ensures { λ a. ⌜ Gives (reportOut (now (store .entry)) (now (table .entry)) r) a (now (store .exit)) (now (table .exit)) ⌝ }
 {
-    let answer = report_answer(&store[..], r);
-    if !is_accepted(answer) {
-        return answer;
+    let reported = report_answer(&store[..], r);
+    if !is_accepted(reported) {
+        return reported;
     }
     step(store, table, r.t);
-    store::changes::remove(store, r.id);
+    take_out(store, table, r.id);
     place(store, table, r);
-    answer
+    reported
 }
 
 // A held float is taken out at time t.
@@ -65,13 +66,13 @@ pub fn drop(store: &mut [i32], table: &mut [i16], id: i32, t: i32) -> Answer
     requires { ⌜ isSound (now store) (now table) ≡ true ⌝ }
     ensures { λ r. ⌜ Gives (dropOut (now (store .entry)) (now (table .entry)) id t) r (now (store .exit)) (now (table .exit)) ⌝ }
 {
-    let answer = drop_answer(&store[..], id, t);
-    if !is_accepted(answer) {
-        return answer;
+    let dropped = drop_answer(&store[..], id, t);
+    if !is_accepted(dropped) {
+        return dropped;
     }
     step(store, table, t);
-    store::changes::remove(store, id);
-    answer
+    take_out(store, table, id);
+    dropped
 }
 
 // The floats predicted inside a rectangle at the asked time, by a method's choice of cells. The ids are written in front of the list.

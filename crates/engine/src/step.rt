@@ -1,7 +1,8 @@
-// The work of the calls that change the index, over buffers known to be sound: the clock step, and placing a report.
+// The work of the calls that change the index, over buffers known to be sound: the clock step, a report placed, a float taken out.
 ghost use mathlib.Core.Path.{_≡_};
 ghost use Rattle.rows.specs.Phases.{phaseOf};
-ghost use Rattle.engine.specs.Gives.{CanMove, Moved, CanStep, Stepped, CanPlace, Placed};
+ghost use Rattle.store.specs.Soundness.{IsStore};
+ghost use Rattle.engine.specs.Gives.{CanMove, Moved, CanStep, Stepped, CanPlace, Placed, TakenOut};
 use grid::Report;
 
 fn wide(t: i32) -> i64
@@ -49,4 +50,12 @@ pub fn place(store: &mut [i32], table: &mut [i16], r: Report)
     let new = store::changes::place_in(phase_at(r.t), r);
     store::changes::insert(store, new);
     store::changes::widen(table, new);
+}
+
+// The float of an id taken out. Its row stays as it is: a row never narrows while its phase lives.
+pub fn take_out(store: &mut [i32], table: &mut [i16], id: i32)
+    requires { ⌜ IsStore (now store) ⌝ }
+    ensures { λ u. ⌜ TakenOut (now (store .entry)) (now (table .entry)) id (now (store .exit)) (now (table .exit)) ⌝ }
+{
+    store::changes::remove(store, id);
 }

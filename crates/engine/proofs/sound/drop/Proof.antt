@@ -56,9 +56,9 @@ step-requires c κs = let e = c .before .before in let a = e .before .before .be
 stepped : (c : tie.After-step) → Stepped (c .before .before .before .before .before .before .before .args .store .now) (c .before .before .before .before .before .before .before .args .table .now) (c .before .before .before .before .before .before .before .args .t) (c .step .last .0) (c .step .last .1 .0)
 stepped c = let a = c .before .before .before .before .before .before .before .args in rw (held w32 (a .t) (search needs)) at (c .step .ensures)
 
-remove-requires : tie.Need-remove-requires
-remove-requires c κs =
-    let s = c .before .before .before in
+take-out-requires : tie.Need-take-out-requires
+take-out-requires c κs =
+    let s = c .before .before .before .before in
     let a = s .before .before .before .before .before .before .before .args in
     stepped-store (a .store .now) (a .table .now) (a .t) (can (s .before .before .before)) (s .step .last .0) (s .step .last .1 .0) (stepped s)
 
@@ -71,15 +71,15 @@ same-length-3 c = search needs
 returns-2 : tie.Need-returns-2
 unfolding dropOut
 returns-2 c =
-    let m = c .before in
-    let s = m .before .before .before .before in
+    let m = c .before .before in
+    let s = m .before .before .before .before .before in
     let e = s .before .before .before in
     let o = e .before .before in
     let a = s .before .before .before .before .before .before .before .args in
-    gives-done (firstToFail (lentChecks (a .store .now) (a .table .now) (dropChecks (a .store .now) (a .id) (a .t))) (Accepted (length (removed (a .id) (recordsAfterStep (a .store .now) (a .t)))))) (o .drop-answer .result) (a .store .now) (a .table .now) _ _ (m .remove .last .0) (s .step .last .1 .0) (sound-passed (a .store .now) (a .table .now) (o .before .before .pre) _ _ (o .drop-answer .result) (answer-is o)) (accepted e)
-    (removed-is (a .store .now) (a .table .now) (a .t) (can e) (s .step .last .0) (s .step .last .1 .0) (stepped s) (a .id) (m .remove .last .0)
-    (m .remove .ensures ∙ ap (λ (id : ℤ). storeOf (nowOf (s .step .last .0)) (removed id (recordsOf (s .step .last .0)))) (held w32 (a .id) (search needs))))
-    (stepped s .table-is)
+    let out = rw (held w32 (a .id) (search needs)) at (m .take-out .ensures) in
+    gives-done (firstToFail (lentChecks (a .store .now) (a .table .now) (dropChecks (a .store .now) (a .id) (a .t))) (Accepted (length (removed (a .id) (recordsAfterStep (a .store .now) (a .t)))))) (o .drop-answer .result) (a .store .now) (a .table .now) _ _ (m .take-out .last .0) (m .take-out .last .1 .0) (sound-passed (a .store .now) (a .table .now) (o .before .before .pre) _ _ (o .drop-answer .result) (answer-is o)) (accepted e)
+    (removed-is (a .store .now) (a .table .now) (a .t) (can e) (s .step .last .0) (s .step .last .1 .0) (stepped s) (a .id) (m .take-out .last .0) (out .store-is))
+    (out .table-is ∙ stepped s .table-is)
 
 pub drop-spec : {M : Type 1} → statement M
-drop-spec = tie.close (tie.spec drop-answer-requires is-accepted-requires same-length returns step-requires remove-requires same-length-2 same-length-3 returns-2)
+drop-spec = tie.close (tie.spec drop-answer-requires is-accepted-requires same-length returns step-requires take-out-requires same-length-2 same-length-3 returns-2)

@@ -18,7 +18,7 @@ use Rattle.store.specs.Changes.{removed}
 use mathlib.Core.Bool.{not}
 use Rattle.rows.specs.Table.{tableWords}
 use Rattle.grid.specs.Reports.{inRange}
-use Rattle.engine.specs.Gives.{CanStep, Stepped}
+use Rattle.engine.specs.Gives.{CanStep, Stepped, TakenOut}
 use Rattle.engine.specs.Index.{lentChecks, reportChecks, reportOut}
 use Rattle.engine.proofs.StepLaws.{table-long}
 use Rattle.engine.proofs.CheckLaws.{sound-is-store, sound-passed}
@@ -65,25 +65,26 @@ stepped c = let a = c .before .before .before .before .before .before .before .b
 long : (c : tie.After-step) → length (c .step .last .1 .0) ≡ tableWords
 long c = let a = c .before .before .before .before .before .before .before .before .args in c .step .kept .1 .0 ∙ table-long (a .store .now) (a .table .now) (a .r .t) (can (c .before .before .before .before))
 
-left : (c : tie.After-remove) → c .remove .last .0 ≡ storeOf (nowOf (c .before .before .before .before .before .step .last .0)) (removed (c .before .before .before .before .before .before .before .before .before .before .before .before .before .args .r .id) (recordsOf (c .before .before .before .before .before .step .last .0)))
-left c =
+take-out-requires : tie.Need-take-out-requires
+take-out-requires c κs =
     let s = c .before .before .before .before .before in
-    c .remove .ensures
-    ∙ ap (λ (id : ℤ). storeOf (nowOf (s .step .last .0)) (removed id (recordsOf (s .step .last .0)))) (held w32 (s .before .before .before .before .before .before .before .before .args .r .id) (search needs))
-
-remove-requires : tie.Need-remove-requires
-remove-requires c κs =
-    let s = c .before .before .before .before in
     let a = s .before .before .before .before .before .before .before .before .args in
     stepped-store (a .store .now) (a .table .now) (a .r .t) (can (s .before .before .before .before)) (s .step .last .0) (s .step .last .1 .0) (stepped s)
 
+abbrev After : tie.After-take-out → tie.After-step
+After c = c .before .before .before .before .before .before
+
+out : (c : tie.After-take-out) → TakenOut (After c .step .last .0) (After c .step .last .1 .0) (After c .before .before .before .before .before .before .before .before .args .r .id) (c .take-out .last .0) (c .take-out .last .1 .0)
+out c = rw (held w32 (After c .before .before .before .before .before .before .before .before .args .r .id) (search needs)) at (c .take-out .ensures)
+
 place-requires : tie.Need-place-requires
 place-requires c κs =
-    let m = c .before .before .before in
-    let s = m .before .before .before .before .before in
+    let m = c .before .before .before .before in
+    let s = After m in
     let e = s .before .before .before .before in
     let a = s .before .before .before .before .before .before .before .before .args in
-    can-place-again (a .store .now) (a .table .now) (a .r) (can e) (s .step .last .0) (s .step .last .1 .0) (stepped s) (long s) (numbers e .0) (m .remove .last .0) (left m) (numbers e .1)
+    rw (out m .table-is)
+    (can-place-again (a .store .now) (a .table .now) (a .r) (can e) (s .step .last .0) (s .step .last .1 .0) (stepped s) (long s) (numbers e .0) (m .take-out .last .0) (out m .store-is) (numbers e .1))
 
 same-length-2 : tie.Need-same-length-2
 same-length-2 c = search needs
@@ -95,13 +96,13 @@ returns-2 : tie.Need-returns-2
 unfolding reportOut
 returns-2 c =
     let p = c .before .before in
-    let m = p .before .before .before .before in
-    let s = m .before .before .before .before .before in
+    let m = p .before .before .before .before .before in
+    let s = After m in
     let e = s .before .before .before .before in
     let o = e .before .before in
     let a = s .before .before .before .before .before .before .before .before .args in
-    let d = placed-again (a .store .now) (a .table .now) (a .r) (can e) (s .step .last .0) (s .step .last .1 .0) (stepped s) (long s) (numbers e .0) (m .remove .last .0) (left m) (p .place .last .0) (p .place .last .1 .0) (p .place .ensures) in
+    let d = placed-again (a .store .now) (a .table .now) (a .r) (can e) (s .step .last .0) (s .step .last .1 .0) (stepped s) (long s) (numbers e .0) (m .take-out .last .0) (out m .store-is) (p .place .last .0) (p .place .last .1 .0) (rw (out m .table-is) at (p .place .ensures)) in
     gives-done (firstToFail (lentChecks (a .store .now) (a .table .now) (reportChecks (a .store .now) (a .r))) (Accepted (length (recordsOf (a .store .now))))) (o .report-answer .result) (a .store .now) (a .table .now) _ _ (p .place .last .0) (p .place .last .1 .0) (sound-passed (a .store .now) (a .table .now) (o .before .before .pre) _ _ (o .report-answer .result) (o .report-answer .ensures)) (accepted e) (d .0) (d .1)
 
 pub report-spec : {M : Type 1} → statement M
-report-spec = tie.close (tie.spec report-answer-requires is-accepted-requires same-length returns step-requires remove-requires place-requires same-length-2 same-length-3 returns-2)
+report-spec = tie.close (tie.spec report-answer-requires is-accepted-requires same-length returns step-requires take-out-requires place-requires same-length-2 same-length-3 returns-2)

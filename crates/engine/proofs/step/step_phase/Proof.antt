@@ -15,7 +15,7 @@ empty-newly-live-requires c κs = c .before .pre .whole-table
 step-records-requires : tie.Need-step-records-requires
 step-records-requires c κs =
     let a = c .before .before .before .before .before in
-    (a .pre .is-store, c .before .before .before .empty-newly-live .kept .0 ∙ a .pre .whole-table, a .pre .small-c, a .pre .small-later)
+    (a .pre .is-store, c .before .before .before .empty-newly-live .kept .0 ∙ a .pre .whole-table, search needs, search needs)
 
 same-length : tie.Need-same-length
 same-length c = search needs
