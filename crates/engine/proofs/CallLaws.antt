@@ -1,7 +1,7 @@
 -- What the calls rest on: a refused call leaves the words at entry, an accepted one has passed each check, and the words after a step are
 -- those of a store.
 -- Assumes nothing.
-use mathlib.Core.Path.{_≡_, refl, sym, ap, ap₂, _∙_}
+use mathlib.Core.Path.{_≡_, refl, sym, ap, ap₂, subst, _∙_}
 use mathlib.Core.Bool.{Bool, true, false, _||_, not, cond}
 use mathlib.Core.List.{List, [], _∷_}
 use Prim.Native.Nat.{ℕ, suc, _≤_, _<_, _^_}
@@ -187,9 +187,13 @@ module _ (s t : List ℤ) (r : Report) (can : CanStep s t (r .t)) (s′ t′ : L
   placed-again s″ e s₂ t₂ p =
       (p .store-is ∙ ap₂ storeOf (left-now s t (r .t) can s′ t′ step (r .id) s″ e) (ap (inserted new) (left-are s t (r .t) can s′ t′ step (r .id) s″ e)), p .table-is ∙ ap (λ (x : List ℤ). widenedBy x new) (step .table-is))
 
--- a record taken out by an id as a call passes it; the table is the one at entry
+-- an id as a call passes it
+pub taken-as : (s t : List ℤ) (id : ℤ) (s′ t′ : List ℤ) → mag id < 2 ^ hbits w32 → TakenOut s t (back w32 id) s′ t′ → TakenOut s t id s′ t′
+taken-as s t id s′ t′ h k = subst (λ (z : ℤ). TakenOut s t z s′ t′) (held w32 id h) k
+
+-- a record is taken out, and the table is the one at entry
 pub taken-out : (s t s′ : List ℤ) (id : ℤ) → mag id < 2 ^ hbits w32 → s′ ≡ storeOf (nowOf s) (removed (back w32 id) (recordsOf s)) → TakenOut s t id s′ t
-taken-out s t s′ id h e = record { store-is = rw (held w32 id h) at e; table-is = refl }
+taken-out s t s′ id h e = taken-as s t id s′ t h (record { store-is = e; table-is = refl })
 
 -- ---- what the later checks of add, report and drop say
 

@@ -19,7 +19,7 @@ use mathlib.Core.Bool.{not}
 use Rattle.engine.specs.Gives.{CanStep, Stepped}
 use Rattle.engine.specs.Index.{lentChecks, dropChecks, dropOut, recordsAfterStep}
 use Rattle.engine.proofs.CheckLaws.{sound-is-store, sound-passed}
-use Rattle.engine.proofs.CallLaws.{gives-refused, gives-done, can-step, stepped-store, removed-is}
+use Rattle.engine.proofs.CallLaws.{gives-refused, gives-done, can-step, stepped-store, removed-is, taken-as}
 use Rattle.engine.proofs.sound.drop.Statement.{statement}
 use Rattle.engine.proofs.sound.drop.Tie as tie
 
@@ -76,7 +76,7 @@ returns-2 c =
     let e = s .before .before .before in
     let o = e .before .before in
     let a = s .before .before .before .before .before .before .before .args in
-    let out = rw (held w32 (a .id) (search needs)) at (m .take-out .ensures) in
+    let out = taken-as (s .step .last .0) (s .step .last .1 .0) (a .id) (m .take-out .last .0) (m .take-out .last .1 .0) (search needs) (m .take-out .ensures) in
     gives-done (firstToFail (lentChecks (a .store .now) (a .table .now) (dropChecks (a .store .now) (a .id) (a .t))) (Accepted (length (removed (a .id) (recordsAfterStep (a .store .now) (a .t)))))) (o .drop-answer .result) (a .store .now) (a .table .now) _ _ (m .take-out .last .0) (m .take-out .last .1 .0) (sound-passed (a .store .now) (a .table .now) (o .before .before .pre) _ _ (o .drop-answer .result) (answer-is o)) (accepted e)
     (removed-is (a .store .now) (a .table .now) (a .t) (can e) (s .step .last .0) (s .step .last .1 .0) (stepped s) (a .id) (m .take-out .last .0) (out .store-is))
     (out .table-is ∙ stepped s .table-is)

@@ -22,7 +22,7 @@ use Rattle.engine.specs.Gives.{CanStep, Stepped, TakenOut}
 use Rattle.engine.specs.Index.{lentChecks, reportChecks, reportOut}
 use Rattle.engine.proofs.StepLaws.{table-long}
 use Rattle.engine.proofs.CheckLaws.{sound-is-store, sound-passed}
-use Rattle.engine.proofs.CallLaws.{gives-refused, gives-done, can-step, rest-accepted, report-passed, stepped-store, can-place-again, placed-again}
+use Rattle.engine.proofs.CallLaws.{gives-refused, gives-done, can-step, rest-accepted, report-passed, stepped-store, can-place-again, placed-again, taken-as}
 use Rattle.engine.proofs.sound.report.Statement.{statement}
 use Rattle.engine.proofs.sound.report.Tie as tie
 
@@ -75,7 +75,9 @@ abbrev After : tie.After-take-out → tie.After-step
 After c = c .before .before .before .before .before .before
 
 out : (c : tie.After-take-out) → TakenOut (After c .step .last .0) (After c .step .last .1 .0) (After c .before .before .before .before .before .before .before .before .args .r .id) (c .take-out .last .0) (c .take-out .last .1 .0)
-out c = rw (held w32 (After c .before .before .before .before .before .before .before .before .args .r .id) (search needs)) at (c .take-out .ensures)
+out c =
+    let s = After c in
+    taken-as (s .step .last .0) (s .step .last .1 .0) (s .before .before .before .before .before .before .before .before .args .r .id) (c .take-out .last .0) (c .take-out .last .1 .0) (search needs) (c .take-out .ensures)
 
 place-requires : tie.Need-place-requires
 place-requires c κs =
