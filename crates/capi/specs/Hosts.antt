@@ -1,0 +1,83 @@
+-- What a host may rely on: for every list of exported calls after an accepted open, each lent the words that the call before left, every reply is
+-- that of the ledger's answer, and the ids in front of an ask's list are the ledger's. It speaks of the exported functions by their contracts alone.
+-- Assumes nothing.
+use mathlib.Core.Path.{_≡_}
+use mathlib.Core.Bool.{cond}
+use mathlib.Core.List.{List, [], _∷_, map}
+use Prim.Native.Nat.{ℕ}
+use lib.Dec.{eqb}
+use lib.IntN.{ℤ}
+use lib.ListN.{length, take}
+use Rattle.grid.specs.declared.Rect.{Rect}
+use Rattle.grid.specs.declared.Report.{Report}
+use Rattle.ledger.specs.Machine.{opened}
+use Rattle.ledger.specs.Calls as Ledger
+use Rattle.engine.specs.Index.{openOut, clockOut, addOut, reportOut, dropOut, askOut}
+use Rattle.history.specs.Index.{Words}
+use Rattle.capi.specs.Replies.{replyOf, reportOf, rectOf, Replies, RepliesList}
+use Rattle.capi.specs.declared.Reply.{Reply}
+
+-- an exported call with its numbers, in the order of its parameters; an ask with the list that it is lent
+pub data HostCall : Type 0 where
+  clock : ℤ → HostCall
+  add : ℤ → ℤ → ℤ → ℤ → ℤ → ℤ → HostCall
+  report : ℤ → ℤ → ℤ → ℤ → ℤ → ℤ → HostCall
+  drop : ℤ → ℤ → HostCall
+  ask : ℤ → ℤ → ℤ → ℤ → ℤ → ℤ → List ℕ → HostCall
+
+-- what the ledger is fed of it
+unfoldable pub fed : HostCall → Ledger.Call
+fed (clock t) = Ledger.clock t
+fed (add id t x y vx vy) = Ledger.add (reportOf id t x y vx vy)
+fed (report id t x y vx vy) = Ledger.report (reportOf id t x y vx vy)
+fed (drop id t) = Ledger.drop id t
+fed (ask method asked lowX lowY highX highY list) = Ledger.ask method asked (rectOf lowX lowY highX highY) (length list)
+
+-- what a host sees of a call: its reply, and of an accepted ask the ids in front of the list
+pub record Seen : Type 0 where
+  pub reply : Reply
+  pub ids : List ℕ
+
+abbrev pub idsIn : Reply → List ℕ → List ℕ
+idsIn r list = cond (eqb (r .number) 0) (take (r .value) list) []
+
+-- what it sees where the ledger answers
+abbrev pub seenOf : Ledger.Reply → Seen
+seenOf l = record { reply = replyOf (l .answer); ids = l .ids }
+
+-- a call that may change the words, made as its exported function promises
+pub record Changes (promise : Reply → List ℤ → List ℤ → Type 0) (seen : Seen) (w : Words) : Type 0 where
+  pub promised : promise (seen .reply) (w .store) (w .table)
+  pub no-ids : seen .ids ≡ []
+
+-- an ask made so: it leaves the words, and its list as `left`
+pub record Asks (promise : Reply → List ℕ → Type 0) (before : Words) (seen : Seen) (after : Words) : Type 0 where
+  pub left : List ℕ
+  pub promised : promise (seen .reply) left
+  pub ids-are : seen .ids ≡ idsIn (seen .reply) left
+  pub words-stay : after ≡ before
+
+unfoldable pub Made : Words → HostCall → Seen → Words → Type 0
+Made w (clock t) seen after = Changes (Replies (clockOut (w .store) (w .table) t)) seen after
+Made w (add id t x y vx vy) seen after = Changes (Replies (addOut (w .store) (w .table) (reportOf id t x y vx vy))) seen after
+Made w (report id t x y vx vy) seen after = Changes (Replies (reportOut (w .store) (w .table) (reportOf id t x y vx vy))) seen after
+Made w (drop id t) seen after = Changes (Replies (dropOut (w .store) (w .table) id t)) seen after
+Made w (ask method asked lowX lowY highX highY list) seen after =
+    Asks (RepliesList (askOut (w .store) (w .table) method asked (rectOf lowX lowY highX highY) list)) w seen after
+
+-- calls made one after the other, each lent the words as the one before left them, and what was seen of each
+pub data AllMade : Words → List HostCall → List Seen → Type 0 where
+  none : {w : Words} → AllMade w [] []
+  one : {w after : Words} {call : HostCall} {calls : List HostCall} {seen : Seen} {more : List Seen}
+      → Made w call seen after
+      → AllMade after calls more
+      → AllMade w (call ∷ calls) (seen ∷ more)
+
+abbrev pub HostsSeeTheLedger : Type 0
+HostsSeeTheLedger =
+    (s t : List ℤ) (time : ℤ) (r : Reply) (w : Words)
+    → Replies (openOut s t time) r (w .store) (w .table)
+    → r .number ≡ 0
+    → (calls : List HostCall) (seen : List Seen)
+    → AllMade w calls seen
+    → seen ≡ map seenOf (Ledger.replies (opened time) (map fed calls))
