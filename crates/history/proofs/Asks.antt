@@ -111,15 +111,15 @@ inside-held q asked (h ∷ hs) =
 
 -- ---- keys and cells
 
-key-number : (p : ℕ) (r : Report) (n : ℕ) → keyIn p r ≡ pos (slotOf p * cells + n) → curveNumber (placeIn p r) ≡ n
+pub key-number : (p : ℕ) (r : Report) (n : ℕ) → keyIn p r ≡ pos (slotOf p * cells + n) → curveNumber (placeIn p r) ≡ n
 unfolding keyIn
 key-number p r n e = let k = ap up e in omega arith
 
-number-key : (p : ℕ) (r : Report) (n : ℕ) → curveNumber (placeIn p r) ≡ n → keyIn p r ≡ pos (slotOf p * cells + n)
+pub number-key : (p : ℕ) (r : Report) (n : ℕ) → curveNumber (placeIn p r) ≡ n → keyIn p r ≡ pos (slotOf p * cells + n)
 unfolding keyIn
 number-key p r n e = ap (λ (k : ℕ). pos (slotOf p * cells + k)) e
 
-place-on : (p : ℕ) (r : Report) → OnGrid (placeIn p r)
+pub place-on : (p : ℕ) (r : Report) → OnGrid (placeIn p r)
 place-on p r = cell-on (xAt r (referenceTime p)) (yAt r (referenceTime p))
 
 module _ (l : Ledger) (w : Words) (good : Good l) (match : Matches l w) where

@@ -8,5 +8,8 @@ pub mod Every
 pub mod Counted
 pub mod UsefulCells
 pub mod Asks
+pub mod EveryCall
+pub mod LastingRows
 pub mod Claims
+pub mod Numbers
 pub mod Points

@@ -15,7 +15,7 @@ use Rattle.ledger.specs.Answers.{numberOf, valueOf, noCounts, countsOf, 
 use Rattle.ledger.specs.Refusals.{Check, unless, firstToFail, inNumberOrder}
 use Rattle.ledger.specs.Machine.{Ledger}
 use Rattle.ledger.specs.Calls.{Call, clock, add, report, drop, ask, checksOf}
-use Rattle.ledger.specs.Claims.{ChecksStandInOrder, FirstFails, GivesTheFirst, FirstToFailIsGiven, LeastNumberIsGiven, RefusalIsPlain, RefusalsArePlain}
+use Rattle.ledger.specs.Claims.{ChecksStandInOrder, FirstFails, FirstToFailIsGiven, LeastNumberIsGiven, RefusalIsPlain, RefusalsArePlain}
 use Rattle.ledger.specs.declared.Answer.{Answer}
 use Rattle.ledger.specs.declared.Answer.the-variants.{Accepted, Listed, WrongLength, Unsound, BadTime, BadNumber, AlreadyHeld, NotHeld, Full, ListTooShort}
 
@@ -35,7 +35,11 @@ checks-stand-in-order = (λ t. refl, calls-in-order)
 
 -- ---- the first to fail
 
-first-given : (before : List Check) (c : Check) (behind : List Check) (accepted : Answer) → ((b : Check) → List·Memᴰ b before → b .fails ≡ false) → c .fails ≡ true → firstToFail (before ++ c ∷ behind) accepted ≡ c .answer
+first-given :
+    (before : List Check) (c : Check) (behind : List Check) (accepted : Answer)
+    → ((b : Check) → List·Memᴰ b before → b .fails ≡ false)
+    → c .fails ≡ true
+    → firstToFail (before ++ c ∷ behind) accepted ≡ c .answer
 unfolding firstToFail
 first-given [] c behind accepted passed failed = ap (λ (t : Bool). unless t (c .answer) (firstToFail behind accepted)) failed
 first-given (b ∷ before) c behind accepted passed failed =
@@ -57,7 +61,11 @@ unfolding firstToFail
 number-from [] accepted n other e = absurd (other e)
 number-from (c ∷ cs) accepted n other e = go (c .fails) refl (number-from cs accepted n other) e
   where
-    go : (t : Bool) → c .fails ≡ t → (numberOf (firstToFail cs accepted) ≡ n → (d : Check) × FirstFails d cs × (numberOf (d .answer) ≡ n)) → numberOf (unless t (c .answer) (firstToFail cs accepted)) ≡ n → (d : Check) × FirstFails d (c ∷ cs) × (numberOf (d .answer) ≡ n)
+    go :
+        (t : Bool)
+        → c .fails ≡ t
+        → (numberOf (firstToFail cs accepted) ≡ n → (d : Check) × FirstFails d cs × (numberOf (d .answer) ≡ n))
+        → numberOf (unless t (c .answer) (firstToFail cs accepted)) ≡ n → (d : Check) × FirstFails d (c ∷ cs) × (numberOf (d .answer) ≡ n)
     go true f later k =
         (c, record { before = []; behind = cs; checks-are = refl; passed = λ b m. absurd (List·Memᴰ·not-nil m); failed = f }, k)
     go false f later k = let a = later k in (a .0, first-later c f (a .1), a .2)
@@ -97,7 +105,10 @@ least-number-is-given (c ∷ cs) accepted h d m f =
   where
     go : (t : Bool) → c .fails ≡ t → (List·Memᴰ d cs → numberOf (firstToFail cs accepted) ≤ numberOf (d .answer)) → numberOf (unless t (c .answer) (firstToFail cs accepted)) ≤ numberOf (d .answer)
     go true e later =
-        ⊎-elim (λ (same : d ≡ c). let k : numberOf (d .answer) ≡ numberOf (c .answer) = ap (λ (x : Check). numberOf (x .answer)) same in omega arith) (λ k. first-least c cs h d k) (List·Memᴰ·cases-cons m)
+        ⊎-elim
+        (λ (same : d ≡ c). let k : numberOf (d .answer) ≡ numberOf (c .answer) = ap (λ (x : Check). numberOf (x .answer)) same in omega arith)
+        (λ k. first-least c cs h d k)
+        (List·Memᴰ·cases-cons m)
     go false e later =
         ⊎-elim (λ (same : d ≡ c). absurd (true-false (sym f ∙ ap (λ (x : Check). x .fails) same ∙ e))) later (List·Memᴰ·cases-cons m)
 
