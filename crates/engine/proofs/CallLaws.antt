@@ -33,9 +33,9 @@ use Rattle.ledger.specs.declared.Answer.{Answer}
 use Rattle.ledger.specs.declared.Answer.the-variants.{Accepted, WrongLength, Unsound, BadTime, BadNumber, AlreadyHeld, NotHeld, Full}
 use Rattle.engine.specs.Index.{settled, wrongLength, unsound, lentChecks, recordsAfterStep, tableAfterStep, widenedBy, askAnswer, askOut}
 use Rattle.engine.specs.Gives.{Gives, GivesList, CanStep, Stepped, CanPlace, Placed, CanAsk}
-use Rattle.engine.proofs.GivesLaws.{gives, gives-list}
 use Rattle.engine.proofs.CheckLaws.{accepted-passed, lent-refused}
 use Rattle.engine.proofs.StepLaws.{store-of, is-store}
+use Rattle.engine.proofs.GivesLaws.{gives, gives-list}
 
 -- ---- refused or done
 

@@ -16,8 +16,8 @@ use Rattle.rows.specs.Table.{tableWords, withNewlyLiveEmpty}
 use Rattle.store.specs.Records.{nowOf, recordsOf, storeOf}
 use Rattle.store.specs.Soundness.{isSound, IsStore}
 use Rattle.store.specs.Changes.{inserted, placedIn, steppedRecords, replaced, withSpeeds}
-use Rattle.ledger.specs.Answers.{numberOf, valueOf, countsOf}
 use Rattle.ledger.specs.declared.Answer.{Answer}
+use Rattle.ledger.specs.Answers.{numberOf, valueOf, countsOf}
 use Rattle.ledger.specs.Refusals.{badAskTime, badAsk}
 use Rattle.engine.specs.Index.{Outcome, AskOutcome, recordsAfterStep, tableAfterStep, widenedBy}
 
