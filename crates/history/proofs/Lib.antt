@@ -7,6 +7,7 @@ pub mod Steps
 pub mod Every
 pub mod Counted
 pub mod UsefulCells
+pub mod SoundUseful
 pub mod Asks
 pub mod EveryCall
 pub mod LastingRows
