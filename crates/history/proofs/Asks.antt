@@ -253,14 +253,14 @@ pub ledger-reply : (l : Ledger) (method asked : ℤ) (q : Rect) (room : ℕ) →
 unfolding L.replyTo L.idsOf
 ledger-reply l method asked q room = refl
 
-index-reply : (w : Words) (method asked : ℤ) (q : Rect) (list : List ℕ) → replyTo w (ask method asked q list) ≡ indexReply (askAnswer (w .store) (w .table) method asked q (length list)) (idsFound (w .store) (w .table) (up method) asked q) list
+reply-of-index : (w : Words) (method asked : ℤ) (q : Rect) (list : List ℕ) → replyTo w (ask method asked q list) ≡ indexReply (askAnswer (w .store) (w .table) method asked q (length list)) (idsFound (w .store) (w .table) (up method) asked q) list
 unfolding replyTo askOut
-index-reply w method asked q list = refl
+reply-of-index w method asked q list = refl
 
 -- an ask of the index answers as the ledger does
 pub ask-agrees : (l : Ledger) (w : Words) → Good l → Matches l w → (method asked : ℤ) (q : Rect) (list : List ℕ) → replyTo w (ask method asked q list) ≡ L.replyTo l (L.ask method asked q (length list))
 ask-agrees l w good match method asked q list =
-    index-reply w method asked q list
+    reply-of-index w method asked q list
     ∙ ap (λ (a : Answer). indexReply a ids list)
     (index-answer s t (no-wrong-length l w good match) (no-unsound l w good match) method asked q room
     ∙ ap (λ (now : ℤ). answerOf (badAskTime now asked) bad room n c u r) (now-is l w good match))
