@@ -51,8 +51,7 @@ every-call-checks-in-order s t = record {
 
 -- ---- what an accepted ask passed, and its answer
 
-record Passed (late bad long odd : Bool) (a b : Answer) : Type 0 where
-  right-length : long ≡ false
+record Passed (late bad odd : Bool) (a b : Answer) : Type 0 where
   is-sound : odd ≡ false
   good-time : late ≡ false
   good-numbers : bad ≡ false
@@ -61,14 +60,14 @@ record Passed (late bad long odd : Bool) (a b : Answer) : Type 0 where
 passed-all :
     (long odd late bad short : Bool) (n c u r : ℕ)
     → let a = unless long WrongLength (unless odd Unsound (unless late BadTime (unless bad BadNumber (unless short (ListTooShort n) (Listed n c u r))))) in
-    isAccepted a ≡ true → Passed late bad long odd a (Listed n c u r)
+    isAccepted a ≡ true → Passed late bad odd a (Listed n c u r)
 passed-all true odd late bad short n c u r h = absurd (true-false (sym h))
 passed-all false true late bad short n c u r h = absurd (true-false (sym h))
 passed-all false false true bad short n c u r h = absurd (true-false (sym h))
 passed-all false false false true short n c u r h = absurd (true-false (sym h))
 passed-all false false false false true n c u r h = absurd (true-false (sym h))
 passed-all false false false false false n c u r h =
-    record { right-length = refl; is-sound = refl; good-time = refl; good-numbers = refl; answer-is = refl }
+    record { is-sound = refl; good-time = refl; good-numbers = refl; answer-is = refl }
 
 with-room : (late bad : Bool) (room n c u r : ℕ) → late ≡ false → bad ≡ false → isAccepted (answerOf late bad room n c u r) ≡ not (ltb room n)
 with-room true bad room n c u r e f = absurd (true-false e)
@@ -88,7 +87,7 @@ module _ (s t : List ℤ) (method asked : ℤ) (q : Rect) (list : List ℕ) wher
 
   module _ (h : isAccepted out ≡ true) where
     passed :
-        Passed (badAskTime (nowOf s) asked) (badAsk method q) (wrongLength s t) (unsound s t) out
+        Passed (badAskTime (nowOf s) asked) (badAsk method q) (unsound s t) out
         (Listed (idsNeeded s t m asked q) (cellsCounted s t m asked q) (usefulCounted s t m asked q) (roundsCounted s t m asked q))
     unfolding askOut askAnswer firstToFail
     passed = passed-all (wrongLength s t) (unsound s t) (badAskTime (nowOf s) asked) (badAsk method q) (ltb (length list) (idsNeeded s t m asked q)) _ _ _ _ h
