@@ -39,6 +39,7 @@ use Rattle.ledger.specs.declared.Answer.the-variants.{Listed, WrongLength, Unso
 use Rattle.engine.specs.Gives.{CanAsk, GivesList, noIds}
 use Rattle.ledger.specs.Machine.{summed}
 use Rattle.engine.specs.Index.{wrongLength, unsound, lentChecks, listedOf, foundIn, phasesNow, idsNeeded, idsFound, cellsCounted, usefulCounted, roundsCounted, askAnswer, askOut}
+use Rattle.engine.proofs.GivesLaws.{gives-list}
 use Rattle.engine.proofs.CheckLaws.{fails, passes, accepts}
 use Rattle.engine.proofs.ListIsExact.{list-is-exact}
 use Rattle.engine.specs.Counted.{CanChoose, CanRead, ReadIn, SmallCounts, CountedTogether, CountedIn, CountedOver}
@@ -315,10 +316,10 @@ module _ (s t : List ℤ) (method asked : ℤ) (q : Rect) (can : CanAsk s t meth
 
   pub short : length list < c .read .listed → GivesList (askOut s t method asked q list) (ListTooShort (c .read .listed)) list
   unfolding askOut
-  short h = let e = short-answer h in record { answer-is = e; list-is = rw (← e) refl }
+  short h = let e = short-answer h in gives-list _ _ _ e (rw (← e) refl)
 
   pub full : c .read .listed ≤ length list → (list′ : List ℕ) → list′ ≡ rising ids ++ drop (length (rising ids)) list → GivesList (askOut s t method asked q list) (Listed (c .read .listed) (c .read .cells) (c .read .useful) (c .rounds)) list′
   unfolding askOut
   full h list′ w =
       let e = full-answer h in
-      record { answer-is = e; list-is = rw (← e) (w ∙ ap (λ (l : List ℕ). l ++ drop (length l) list) found-is) }
+      gives-list _ _ _ e (rw (← e) (w ∙ ap (λ (l : List ℕ). l ++ drop (length l) list) found-is))

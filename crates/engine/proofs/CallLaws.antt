@@ -38,6 +38,7 @@ use Rattle.engine.specs.Index.{settled, wrongLength, unsound, lentChecks
 use Rattle.engine.specs.Gives.{Gives, GivesList, CanStep, Stepped, CanPlace, Placed, TakenOut, CanAsk}
 use Rattle.engine.proofs.CheckLaws.{accepted-passed, lent-refused}
 use Rattle.engine.proofs.StepLaws.{store-of, is-store}
+use Rattle.engine.proofs.GivesLaws.{gives, gives-list}
 
 -- ---- refused or done
 
@@ -45,7 +46,7 @@ pub gives-refused : (a r : Answer) (s t s′ t′ : List ℤ) → r ≡ a → is
 unfolding settled
 gives-refused a r s t s′ t′ e n =
     let k = sym (ap isAccepted e) ∙ n in
-    record { answer-is = e; store-is = sym (ap (λ (b : Bool). cond b s′ s) k); table-is = sym (ap (λ (b : Bool). cond b t′ t) k) }
+    gives _ r s t e (sym (ap (λ (b : Bool). cond b s′ s) k)) (sym (ap (λ (b : Bool). cond b t′ t) k))
 
 -- refused for the lent words, whatever checks come after
 pub gives-lent-refused : (s t s′ t′ : List ℤ) (more : List Check) (accepted r : Answer) → r ≡ firstToFail (lentChecks s t []) (Accepted 0) → isAccepted r ≡ false → Gives (settled (firstToFail (lentChecks s t more) accepted) s t s′ t′) r s t
@@ -56,7 +57,7 @@ pub gives-done : (a r : Answer) (s t s′ t′ s″ t″ : List ℤ) → r ≡ a
 unfolding settled
 gives-done a r s t s′ t′ s″ t″ e n x y =
     let k = sym (ap isAccepted e) ∙ n in
-    record { answer-is = e; store-is = x ∙ sym (ap (λ (b : Bool). cond b s′ s) k); table-is = y ∙ sym (ap (λ (b : Bool). cond b t′ t) k) }
+    gives _ r s″ t″ e (x ∙ sym (ap (λ (b : Bool). cond b s′ s) k)) (y ∙ sym (ap (λ (b : Bool). cond b t′ t) k))
 
 -- ---- what acceptance says
 
@@ -140,7 +141,7 @@ pub ask-refused : (s t : List ℤ) (method asked : ℤ) (q : Rect) (list : List 
 unfolding askOut askAnswer firstToFail
 ask-refused s t method asked q list r e n =
     let x = e ∙ go (wrongLength s t) (unsound s t) (badAskTime (nowOf s) asked) (badAsk method q) _ (sym (ap isAccepted e) ∙ n) in
-    record { answer-is = x; list-is = rw (← x, n) refl }
+    gives-list _ r list x (rw (← x, n) refl)
   where
     go : (a b c d : Bool) (rest : Answer) → isAccepted (unless a WrongLength (unless b Unsound (unless c BadTime (unless d BadNumber (Accepted 0))))) ≡ false → unless a WrongLength (unless b Unsound (unless c BadTime (unless d BadNumber (Accepted 0)))) ≡ unless a WrongLength (unless b Unsound (unless c BadTime (unless d BadNumber rest)))
     go true b c d rest h = refl

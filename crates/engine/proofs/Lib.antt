@@ -3,6 +3,7 @@ pub mod ListIsExact
 pub mod Counts
 pub mod CheckLaws
 pub mod StepLaws
+pub mod GivesLaws
 pub mod AskingLaws
 pub mod CallLaws
 pub mod SmallAnswers

@@ -17,16 +17,23 @@ use Rattle.store.specs.Records.{nowOf, recordsOf, storeOf}
 use Rattle.store.specs.Soundness.{isSound, IsStore}
 use Rattle.store.specs.Changes.{inserted, removed, placedIn, steppedRecords, replaced, withSpeeds}
 use Rattle.ledger.specs.declared.Answer.{Answer}
+use Rattle.ledger.specs.Answers.{numberOf, valueOf, countsOf}
 use Rattle.ledger.specs.Refusals.{badAskTime, badAsk}
 use Rattle.engine.specs.Index.{Outcome, AskOutcome, recordsAfterStep, tableAfterStep, widenedBy}
 
--- a call's answer and words at exit are those of its definition
+-- a call's number, value, counts and words at exit are those of its definition, and so is the answer that has them
 pub record Gives (o : Outcome) (a : Answer) (s t : List ℤ) : Type 0 where
+  pub number-is : numberOf a ≡ numberOf (o .answer)
+  pub value-is : valueOf a ≡ valueOf (o .answer)
+  pub counts-are : countsOf a ≡ countsOf (o .answer)
   pub answer-is : a ≡ o .answer
   pub store-is : s ≡ o .store
   pub table-is : t ≡ o .table
 
 pub record GivesList (o : AskOutcome) (a : Answer) (list : List ℕ) : Type 0 where
+  pub number-is : numberOf a ≡ numberOf (o .answer)
+  pub value-is : valueOf a ≡ valueOf (o .answer)
+  pub counts-are : countsOf a ≡ countsOf (o .answer)
   pub answer-is : a ≡ o .answer
   pub list-is : list ≡ o .list
 

@@ -47,8 +47,11 @@ unsound s t = not (isSound s t)
 
 -- ---- open
 
+abbrev pub openChecks : List ℤ → List ℤ → ℤ → List Check
+openChecks s t time = check (wrongLength s t) WrongLength ∷ check (badTime time) BadTime ∷ []
+
 abbrev pub openAnswer : List ℤ → List ℤ → ℤ → Answer
-openAnswer s t time = firstToFail (check (wrongLength s t) WrongLength ∷ check (badTime time) BadTime ∷ []) (Accepted 0)
+openAnswer s t time = firstToFail (openChecks s t time) (Accepted 0)
 
 unfoldable pub openOut : List ℤ → List ℤ → ℤ → Outcome
 openOut s t time =
@@ -170,15 +173,19 @@ pub record AskOutcome : Type 0 where
   pub answer : Answer
   pub list : List ℕ
 
+abbrev pub askChecks : List ℤ → List ℤ → ℤ → ℤ → Rect → ℕ → List Check
+askChecks s t method asked q room =
+    let needed = idsNeeded s t (up method) asked q in
+    check (badAskTime (nowOf s) asked) BadTime
+    ∷ check (badAsk method q) BadNumber
+    ∷ check (ltb room needed) (ListTooShort needed)
+    ∷ []
+
 unfoldable pub askAnswer : List ℤ → List ℤ → ℤ → ℤ → Rect → ℕ → Answer
 askAnswer s t method asked q room =
     let m = up method in
     firstToFail
-    (lentChecks s t
-    (check (badAskTime (nowOf s) asked) BadTime
-    ∷ check (badAsk method q) BadNumber
-    ∷ check (ltb room (idsNeeded s t m asked q)) (ListTooShort (idsNeeded s t m asked q))
-    ∷ []))
+    (lentChecks s t (askChecks s t method asked q room))
     (Listed (idsNeeded s t m asked q) (cellsCounted s t m asked q) (usefulCounted s t m asked q) (roundsCounted s t m asked q))
 
 -- the ids are written in front and the rest of the list is kept

@@ -2,45 +2,38 @@
 -- cells counted, the same ids.
 -- Assumes nothing.
 use mathlib.Core.Path.{_≡_, refl, sym, ap, ap₂, _∙_, subst}
-use mathlib.Core.Bool.{Bool, true, false, not, cond}
-use mathlib.Core.List.{List, [], _∷_, _++_, List·Memᴰ, List·Memᴰ·head, List·Memᴰ·tail, List·Memᴰ·cases-cons, List·Memᴰ·not-nil}
+use mathlib.Core.Bool.{Bool, true, false, cond}
+use mathlib.Core.List.{List, [], _∷_, _++_, map, Memᴰ·cast, List·Memᴰ, List·Memᴰ·head, List·Memᴰ·tail, List·Memᴰ·cases-cons, List·Memᴰ·not-nil}
 use mathlib.Core.Logic.{_⊎_, inl, inr, ⊎-elim}
-use Prim.Native.Nat.{ℕ, _+_, _*_, _<_}
-use native.Mathlib.Omega.{arith}
-use lib.Dec.{eqb, ltb}
-use lib.IntN.{ℤ, pos}
+use Prim.Native.Nat.{ℕ, _+_}
+use lib.Dec.{ltb}
+use lib.IntN.{ℤ}
 use lib.ListN.{length, take, drop}
 use lib.Seq.{take-append-seam}
-use borrow.Author.Tests.{eqb-true, eq-eqb}
-use Rattle.ints.specs.Whole.{up, eqZ}
-use Rattle.ints.proofs.Truth.{same-truth, and-true, and-left, and-right}
-use Rattle.ints.proofs.Same.{same-is, is-same}
-use Rattle.ints.proofs.Members.{passing, passing-in, passing-has, some-passes, passes-some}
-use Rattle.ints.proofs.Marks.{counted, counted-same}
+use Rattle.ints.specs.Whole.{up}
+use Rattle.ints.proofs.Truth.{same-truth}
+use Rattle.ints.proofs.Members.{map-has, map-in}
 use Rattle.grid.specs.Units.{cells}
-use Rattle.grid.specs.Places.{OnGrid}
-use Rattle.grid.specs.Curve.{curveNumber, cellOfNumber}
-use Rattle.grid.specs.Reports.{xAt, yAt, isListed}
+use Rattle.grid.specs.Curve.{curveNumber}
+use Rattle.grid.specs.Reports.{isListed}
+use Rattle.grid.specs.declared.Cell.{Cell}
 use Rattle.grid.specs.declared.Rect.{Rect}
-use Rattle.grid.specs.declared.Report.{Report}
-use Rattle.grid.proofs.Places.{cell-on}
-use Rattle.grid.proofs.Curve.{number-below, number-of-its-cell, cell-of-its-number}
-use Rattle.rows.specs.Phases.{phaseOf, referenceTime, sinceReference, isLive, livePhases, slotOf}
+use Rattle.grid.proofs.Curve.{number-below, cell-of-its-number}
+use Rattle.rows.specs.Phases.{phaseOf, sinceReference, isLive, livePhases, slotOf}
 use Rattle.rows.proofs.PhaseLaws.{listed-live}
 use Rattle.methods.specs.Methods.{Choice, choice}
 use Rattle.methods.specs.Chosen.{rowsOfSlot}
 use Rattle.methods.proofs.ChoiceLaws.{choice-same}
-use Rattle.store.specs.Records.{nowOf, recordsOf}
-use Rattle.store.specs.Order.{keyIn, precedes}
+use Rattle.store.specs.Records.{nowOf}
+use Rattle.store.specs.Order.{precedes}
 use Rattle.store.specs.Changes.{inserted}
-use Rattle.store.specs.Reading.{hasKey}
 use Rattle.store.specs.declared.Record.{Record}
 use Rattle.store.proofs.SoundLawsKeys.{live-phase-of-key}
 use Rattle.store.proofs.SoundLaws.{Sound, sound-parts}
-use Rattle.store.proofs.ListedLaws.{idOf, key-among}
+use Rattle.store.proofs.ListedLaws.{idOf}
 use Rattle.ledger.specs.Answers.{valueOf, isAccepted}
 use Rattle.ledger.specs.Refusals.{unless, firstToFail, badAskTime, badAsk}
-use Rattle.ledger.specs.Machine.{Ledger, Held, placeIn, rowsIn, choiceIn, listedHeld, isUseful, usefulCells, putInOrder, idsInOrder, summed, idsListed, cellsRead, usefulRead, roundsTaken}
+use Rattle.ledger.specs.Machine.{Ledger, Held, rowsIn, choiceIn, listedHeld, isUseful, usefulCells, putInOrder, idsInOrder, summed, idsListed, cellsRead, usefulRead, roundsTaken}
 use Rattle.ledger.specs.Calls as L
 use Rattle.ledger.specs.Calls.{Reply}
 use Rattle.ledger.specs.declared.Answer.{Answer}
@@ -49,14 +42,16 @@ use Rattle.ledger.proofs.OrderLaws.{put-comm}
 use Rattle.ledger.proofs.SumLaws.{summed-same}
 use Rattle.engine.specs.Index.{wrongLength, unsound, choiceOf, idsNeeded, idsFound, cellsCounted, usefulCounted, roundsCounted, askAnswer, askOut}
 use Rattle.engine.specs.Claims.{idsInside}
-use Rattle.engine.proofs.AskLaws.{FitAsk, fit-ask, phaseOfRecord, isInside, isInsideIn}
-use Rattle.engine.proofs.Counts.{cells-counted-are, useful-counted-are}
+use Rattle.engine.proofs.AskLaws.{FitAsk, fit-ask, isInside}
+use Rattle.engine.proofs.Counts.{cells-counted-are}
 use Rattle.engine.proofs.ListIsExact.{found-is-inside, needed-is-inside}
 use Rattle.history.specs.Index.{Words, ask, replyTo}
+use Rattle.history.specs.EveryCall.{heldRecord, heldIn}
 use Rattle.history.proofs.Relation.{recordOf, recordsOfHeld, Good, Matches}
 use Rattle.history.proofs.HeldRecords.{records-from}
 use Rattle.history.proofs.Sound.{now-is, records-are, matching-sound, no-wrong-length, no-unsound}
-use Rattle.history.proofs.UsefulCells.{useful-from, from-useful, useful-is}
+use Rattle.history.proofs.UsefulCells.{useful-from, from-useful}
+use Rattle.history.proofs.SoundUseful.{useful-counted}
 
 -- ---- the records of the held reports
 
@@ -109,18 +104,13 @@ inside-held q asked (h ∷ hs) =
     go true = refl
     go false = refl
 
--- ---- keys and cells
+-- ---- the asks
 
-key-number : (p : ℕ) (r : Report) (n : ℕ) → keyIn p r ≡ pos (slotOf p * cells + n) → curveNumber (placeIn p r) ≡ n
-unfolding keyIn
-key-number p r n e = let k = ap up e in omega arith
-
-number-key : (p : ℕ) (r : Report) (n : ℕ) → curveNumber (placeIn p r) ≡ n → keyIn p r ≡ pos (slotOf p * cells + n)
-unfolding keyIn
-number-key p r n e = ap (λ (k : ℕ). pos (slotOf p * cells + k)) e
-
-place-on : (p : ℕ) (r : Report) → OnGrid (placeIn p r)
-place-on p r = cell-on (xAt r (referenceTime p)) (yAt r (referenceTime p))
+same-useful-cells : (p : ℕ) (hs gs : List Held) → ((c : Cell) → isUseful p c hs ≡ isUseful p c gs) → (cs : List Cell) → usefulCells p hs cs ≡ usefulCells p gs cs
+unfolding usefulCells
+same-useful-cells p hs gs same [] = refl
+same-useful-cells p hs gs same (c ∷ cs) =
+    ap₂ (λ (b : Bool) (more : ℕ). cond b 1 0 + more) (same c) (same-useful-cells p hs gs same cs)
 
 module _ (l : Ledger) (w : Words) (good : Good l) (match : Matches l w) where
   -- the same choice in each live phase
@@ -168,68 +158,42 @@ module _ (l : Ledger) (w : Words) (good : Good l) (match : Matches l w) where
         ∙ by-phase (λ p. length (choiceOf (w .store) (w .table) method asked q p .cells)) (λ p. length (choiceIn l method asked q p .cells))
         (λ p live. ap (λ (k : Choice). length (k .cells)) (same-choice method asked q p live))
 
-    -- the records inside that are placed in a phase
-    insideIn : ℕ → List Record
-    insideIn p = passing (isInsideIn (nowOf (w .store)) q asked p) (recordsOf (w .store))
+    -- a cell is useful by the records of the store where it is useful by the held reports
+    held-again : {h : Held} → List·Memᴰ h (l .held) → heldRecord (l .now) (recordOf h) ≡ h
+    held-again {h} m =
+        let phase = live-phase-of-key (phaseOf (l .now)) (h .phase) (h .report) (good .holds h m .live) in
+        λ i. record { report = h .report; phase = phase i }
 
-    inside-in-is : (p : ℕ) → insideIn p ≡ passing (isInsideIn (l .now) q asked p) (recordsOfHeld (l .held))
-    unfolding insideIn
-    inside-in-is p =
-        ap₂ (λ (now : ℤ) (rs : List Record). passing (isInsideIn now q asked p) rs) (now-is l w good match) (records-are l w good match)
+    held-are : heldIn (w .store) ≡ map (heldRecord (l .now)) (recordsOfHeld (l .held))
+    held-are =
+        ap₂ (λ (now : ℤ) (rs : List Record). map (heldRecord now) rs) (now-is l w good match) (records-are l w good match)
 
-    phase-held : {h : Held} → List·Memᴰ h (l .held) → phaseOfRecord (l .now) (recordOf h) ≡ h .phase
-    phase-held {h} m = live-phase-of-key (phaseOf (l .now)) (h .phase) (h .report) (good .holds h m .live)
+    held-from : {h : Held} → List·Memᴰ h (heldIn (w .store)) → List·Memᴰ h (l .held)
+    held-from {h} i =
+        let a = map-in (heldRecord (l .now)) (recordsOfHeld (l .held)) (subst (λ (hs : List Held). List·Memᴰ h hs) held-are i) in
+        let f = records-from (l .held) (a .1) in
+        Memᴰ·cast (a .2 ∙ ap (heldRecord (l .now)) (f .2) ∙ held-again (f .1)) (f .1)
 
-    -- one of them has the key of a cell exactly where a listed float is placed in the cell
-    key-is-useful : (p : ℕ) → isLive (phaseOf (l .now)) p ≡ true → (n : ℕ) → n < cells → hasKey (pos (slotOf p * cells + n)) (insideIn p) ≡ isUseful p (cellOfNumber n) (listedHeld q asked (l .held))
-    key-is-useful p live n below = same-truth _ _ there back
-      where
-        key : ℤ
-        key = pos (slotOf p * cells + n)
+    held-has : {h : Held} → List·Memᴰ h (l .held) → List·Memᴰ h (heldIn (w .store))
+    held-has {h} i =
+        subst (λ (hs : List Held). List·Memᴰ h hs) (sym held-are)
+        (Memᴰ·cast (sym (held-again i)) (map-has (heldRecord (l .now)) (recordsOfHeld (l .held)) (record-held (l .held) i)))
 
-        listed : List Record
-        listed = insideIn p
-
-        there : hasKey key listed ≡ true → isUseful p (cellOfNumber n) (listedHeld q asked (l .held)) ≡ true
-        there h =
-            let a = some-passes (λ (k : Record). eqZ (k .key) key) listed (sym (key-among key listed) ∙ h) in
-            let r = a .0 in
-            let b = passing-in (isInsideIn (l .now) q asked p) (recordsOfHeld (l .held)) (subst (λ (rs : List Record). List·Memᴰ r rs) (inside-in-is p) (a .1)) in
-            let f = records-from (l .held) (b .0) in
-            let g = f .0 in
-            let own = eqb-true (phaseOfRecord (l .now) r) p (and-left (eqb (phaseOfRecord (l .now) r) p) (isInside q asked r) (b .1)) in
-            let inside = and-right (eqb (phaseOfRecord (l .now) r) p) (isInside q asked r) (b .1) in
-            let phase : g .phase ≡ p = sym (phase-held (f .1)) ∙ sym (ap (phaseOfRecord (l .now)) (f .2)) ∙ own in
-            let same : keyIn p (g .report) ≡ key =
-            ap (λ (k : ℕ). keyIn k (g .report)) (sym phase) ∙ sym (ap (λ (k : Record). k .key) (f .2)) ∙ same-is (r .key) key (a .2) in
-            let place : placeIn p (g .report) ≡ cellOfNumber n =
-            sym (cell-of-its-number (placeIn p (g .report)) (place-on p (g .report))) ∙ ap cellOfNumber (key-number p (g .report) n same) in
-            from-useful q asked p (cellOfNumber n) (l .held) (f .1) (sym (ap (isInside q asked) (f .2)) ∙ inside) phase place
-
-        back : isUseful p (cellOfNumber n) (listedHeld q asked (l .held)) ≡ true → hasKey key listed ≡ true
-        back u =
-            let a = useful-from q asked p (cellOfNumber n) (l .held) u in
-            let g = a .0 in
-            let r = recordOf g in
-            let number : curveNumber (placeIn p (g .report)) ≡ n = ap curveNumber (a .4) ∙ number-of-its-cell n below in
-            let same : r .key ≡ key = ap (λ (k : ℕ). keyIn k (g .report)) (a .3) ∙ number-key p (g .report) n number in
-            let test = and-true (eqb (phaseOfRecord (l .now) r) p) (isInside q asked r) (eq-eqb (phaseOfRecord (l .now) r) p (phase-held (a .1) ∙ a .3)) (a .2) in
-            let m = passing-has (isInsideIn (l .now) q asked p) (recordsOfHeld (l .held)) (record-held (l .held) (a .1)) test in
-            key-among key listed
-            ∙ passes-some (λ (k : Record). eqZ (k .key) key) listed {a = r}
-            (subst (λ (rs : List Record). List·Memᴰ r rs) (sym (inside-in-is p)) m) (is-same (r .key) key same)
+    same-useful-cell : (p : ℕ) (c : Cell) → isUseful p c (listedHeld q asked (heldIn (w .store))) ≡ isUseful p c (listedHeld q asked (l .held))
+    same-useful-cell p c =
+        same-truth _ _
+        (λ u. let a = useful-from q asked p c (heldIn (w .store)) u in from-useful q asked p c (l .held) (held-from (a .1)) (a .2) (a .3) (a .4))
+        (λ u. let a = useful-from q asked p c (l .held) u in from-useful q asked p c (heldIn (w .store)) (held-has (a .1)) (a .2) (a .3) (a .4))
 
     useful-agree : usefulCounted (w .store) (w .table) method asked q ≡ usefulRead l method asked q
-    unfolding insideIn
     useful-agree =
-        useful-counted-are (w .store) (w .table) method asked q parts fit-here
+        useful-counted (w .store) (w .table) parts method asked q fit-here
         ∙ by-phase
-        (λ p. counted (λ n. hasKey (pos (slotOf p * cells + n)) (insideIn p)) 0 cells)
+        (λ p. usefulCells p (listedHeld q asked (heldIn (w .store))) (choiceOf (w .store) (w .table) method asked q p .cells))
         (λ p. usefulCells p (listedHeld q asked (l .held)) (choiceIn l method asked q p .cells))
         (λ p live.
-        counted-same (λ n. hasKey (pos (slotOf p * cells + n)) (insideIn p)) (λ n. isUseful p (cellOfNumber n) (listedHeld q asked (l .held))) 0 cells
-        (λ n h k. key-is-useful p live n (omega arith))
-        ∙ sym (useful-is l good asked q fit method p live))
+        same-useful-cells p (listedHeld q asked (heldIn (w .store))) (listedHeld q asked (l .held)) (same-useful-cell p) (choiceOf (w .store) (w .table) method asked q p .cells)
+        ∙ ap (λ (k : Choice). usefulCells p (listedHeld q asked (l .held)) (k .cells)) (same-choice method asked q p live))
 
 -- ---- the answer and the reply, by the two tests and the numbers
 
@@ -289,14 +253,14 @@ pub ledger-reply : (l : Ledger) (method asked : ℤ) (q : Rect) (room : ℕ) →
 unfolding L.replyTo L.idsOf
 ledger-reply l method asked q room = refl
 
-index-reply : (w : Words) (method asked : ℤ) (q : Rect) (list : List ℕ) → replyTo w (ask method asked q list) ≡ indexReply (askAnswer (w .store) (w .table) method asked q (length list)) (idsFound (w .store) (w .table) (up method) asked q) list
+reply-of-index : (w : Words) (method asked : ℤ) (q : Rect) (list : List ℕ) → replyTo w (ask method asked q list) ≡ indexReply (askAnswer (w .store) (w .table) method asked q (length list)) (idsFound (w .store) (w .table) (up method) asked q) list
 unfolding replyTo askOut
-index-reply w method asked q list = refl
+reply-of-index w method asked q list = refl
 
 -- an ask of the index answers as the ledger does
 pub ask-agrees : (l : Ledger) (w : Words) → Good l → Matches l w → (method asked : ℤ) (q : Rect) (list : List ℕ) → replyTo w (ask method asked q list) ≡ L.replyTo l (L.ask method asked q (length list))
 ask-agrees l w good match method asked q list =
-    index-reply w method asked q list
+    reply-of-index w method asked q list
     ∙ ap (λ (a : Answer). indexReply a ids list)
     (index-answer s t (no-wrong-length l w good match) (no-unsound l w good match) method asked q room
     ∙ ap (λ (now : ℤ). answerOf (badAskTime now asked) bad room n c u r) (now-is l w good match))

@@ -7,6 +7,10 @@ pub mod Steps
 pub mod Every
 pub mod Counted
 pub mod UsefulCells
+pub mod SoundUseful
 pub mod Asks
+pub mod EveryCall
+pub mod LastingRows
 pub mod Claims
+pub mod Numbers
 pub mod Points

@@ -77,7 +77,7 @@ module _ (now t : ℤ) (h : badStepTime now t ≡ false) where
       go true k = k
       go false k = refl
 
-  step-later : leZ now t ≡ true
+  pub step-later : leZ now t ≡ true
   step-later = let k = go (not (isTime t)) h in omega (arith, signed)
     where
       go : (b : Bool) → b || ltZ t now ≡ false → ltZ t now ≡ false

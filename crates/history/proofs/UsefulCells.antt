@@ -53,7 +53,7 @@ unfolding isUseful some
 useful-among p c [] = refl
 useful-among p c (h ∷ hs) = ap (λ (more : Bool). isThere p c h || more) (useful-among p c hs)
 
-useful-cells-are : (p : ℕ) (hs : List Held) (cs : List Cell) → usefulCells p hs cs ≡ countedCells (λ c. isUseful p c hs) cs
+pub useful-cells-are : (p : ℕ) (hs : List Held) (cs : List Cell) → usefulCells p hs cs ≡ countedCells (λ c. isUseful p c hs) cs
 unfolding usefulCells countedCells
 useful-cells-are p hs [] = refl
 useful-cells-are p hs (c ∷ cs) = ap (λ (more : ℕ). bit (isUseful p c hs) + more) (useful-cells-are p hs cs)

@@ -8,10 +8,16 @@ use Prim.Native.Nat.{ℕ, _+_}
 use lib.IntN.{ℤ}
 use lib.ListN.{length}
 use Rattle.ints.specs.Whole.{up}
+use Rattle.grid.specs.Places.{OnGrid}
+use Rattle.grid.specs.declared.Cell.{Cell}
 use Rattle.grid.specs.declared.Rect.{Rect}
-use Rattle.rows.specs.Phases.{phaseOf, sinceReference, livePhases}
+use Rattle.rows.specs.Row.{holds}
+use Rattle.rows.specs.Phases.{phaseOf, sinceReference, isLive, livePhases, slotOf}
+use Rattle.rows.specs.declared.Row.{Row}
+use Rattle.methods.specs.Chosen.{rowsOfSlot}
 use Rattle.methods.specs.Claims.{Nested}
-use Rattle.ledger.specs.Answers.{isAccepted, countsOf}
+use Rattle.store.specs.Records.{nowOf}
+use Rattle.ledger.specs.Answers.{isAccepted, numberOf, countsOf}
 use Rattle.ledger.specs.Machine.{Ledger, opened, rowsIn, choiceIn}
 use Rattle.ledger.specs.Calls as L
 use Rattle.ledger.specs.Calls.{Call, Reply}
@@ -73,3 +79,42 @@ abbrev pub HeldAreAddsLessDrops : Type 0
 HeldAreAddsLessDrops =
     (time : ℤ) (calls : List Call)
     → length (L.after (opened time) calls .held) + acceptedOf 0 1 (opened time) calls ≡ acceptedOf 1 0 (opened time) calls
+
+-- ---- numbers 1 and 2 never come up in a list
+
+abbrev pub OneAndTwoNeverComeUp : Type 0
+OneAndTwoNeverComeUp =
+    (s t : List ℤ) (time : ℤ)
+    → isAccepted (openOut s t time .answer) ≡ true
+    → (calls : List LentCall) (r : Reply)
+    → List·Memᴰ r (replies (openedWords s t time) calls)
+    → (numberOf (r .answer) ≡ 1 → ⊥) × (numberOf (r .answer) ≡ 2 → ⊥)
+
+-- ---- a row never narrows while its phase lives
+
+abbrev pub phaseNow : Words → ℕ
+phaseNow w = phaseOf (nowOf (w .store))
+
+-- every speed that one row holds the other holds
+abbrev pub HoldsRow : Row → Row → Type 0
+HoldsRow wide narrow = (vx vy : ℤ) → holds narrow vx vy ≡ true → holds wide vx vy ≡ true
+
+-- over every list of calls, accepted or refused, from any words on: in a phase that is live before it and after it, each cell's row holds all that it
+-- held before
+abbrev pub RowsNeverNarrow : Type 0
+RowsNeverNarrow =
+    (w : Words) (calls : List LentCall) (p : ℕ)
+    → isLive (phaseNow w) p ≡ true
+    → isLive (phaseNow (after w calls)) p ≡ true
+    → (c : Cell)
+    → OnGrid c
+    → HoldsRow (rowsOfSlot (after w calls .table) (slotOf p) c) (rowsOfSlot (w .table) (slotOf p) c)
+
+-- and so in the ledger
+abbrev pub LedgerRowsNeverNarrow : Type 0
+LedgerRowsNeverNarrow =
+    (l : Ledger) (calls : List Call) (p : ℕ)
+    → isLive (phaseOf (l .now)) p ≡ true
+    → isLive (phaseOf (L.after l calls .now)) p ≡ true
+    → (c : Cell)
+    → HoldsRow (rowsIn (L.after l calls) p c) (rowsIn l p c)

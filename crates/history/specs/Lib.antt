@@ -1,3 +1,5 @@
 pub mod Index
+pub mod EveryCall
 pub mod Claims
 pub mod Points
+pub mod Sightings

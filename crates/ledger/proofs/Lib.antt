@@ -2,3 +2,4 @@ pub mod Sightings
 pub mod MachineLaws
 pub mod OrderLaws
 pub mod SumLaws
+pub mod Claims

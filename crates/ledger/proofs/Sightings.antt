@@ -1,5 +1,5 @@
 -- P1 to P12 hold of the definitions jointly: one tabled fact, which antt computes. The listing of document 01 gives the document's answers, and
--- so do a worked list with each refusal from 3 on, and a full ledger.
+-- so do a worked list with each refusal from 3 on, and a full ledger. Each number from 3 to 8 is given by a call.
 -- Assumes nothing.
 use mathlib.Core.Path.{_≡_, refl}
 use mathlib.Core.List.{List, map}
@@ -17,7 +17,7 @@ use Rattle.methods.specs.Methods.{boundsIn, expandedBlock, iterated, reached, c
 use Rattle.ledger.specs.Refusals.{firstToFail, isRectangle}
 use Rattle.ledger.specs.Machine.{opened, steppedHeld, newPlacements, livePlacements, stepped, isHeld, without, withReport, withoutId, speedsPlaced, rowsIn, listedHeld, isUseful, usefulCells, putInOrder, idsInOrder, summed}
 use Rattle.ledger.specs.Calls.{answerTo, changedBy, idsOf, next, replyTo, replies, after}
-use Rattle.ledger.specs.Sightings.{sightings, ledgerP11, ledgerP12, phasesHeld, columnsPlaced, listing, listingSays, sent, answers, refused, refusedSays, crowd}
+use Rattle.ledger.specs.Sightings.{sightings, ledgerP11, ledgerP12, phasesHeld, columnsPlaced, listing, listingSays, sent, answers, refused, refusedSays, crowd, ledgerOfOne, numbers}
 use Rattle.ledger.specs.Calls.{add}
 use Rattle.ledger.specs.declared.Answer.the-variants.{Accepted, Full}
 
@@ -36,3 +36,7 @@ refused-as-said = refl
 pub full-as-said : (answerTo (crowd 1024) (add (sent 2 0 0 0 (pos 0) (pos 0))) ≡ Full) × (answerTo (crowd 1023) (add (sent 2 0 0 0 (pos 0) (pos 0))) ≡ Accepted 1024)
 unfolding columnOf cellSpan numberAt minZ maxZ eqZ joined sameRow isEmpty boundsOf expandedRange expandedRect blockOf cellsOfRow cellsOfRows cellsOf movedSpan meets movedCellMeets boundsIn expandedBlock iterated reached choice inRange xAt yAt inRect isListed phaseOf referenceTime isLive livePhases firstToFail isRectangle steppedHeld newPlacements livePlacements stepped isHeld without withReport withoutId speedsPlaced rowsIn listedHeld isUseful usefulCells putInOrder idsInOrder summed answerTo changedBy idsOf next replyTo replies after
 full-as-said = (refl, refl)
+
+pub numbers-as-said : map (λ (s : Sighting). s .given) numbers ≡ map (λ (s : Sighting). s .said) numbers
+unfolding numbers ledgerOfOne columnOf cellSpan numberAt minZ maxZ eqZ joined sameRow isEmpty boundsOf expandedRange expandedRect blockOf cellsOfRow cellsOfRows cellsOf movedSpan meets movedCellMeets boundsIn expandedBlock iterated reached choice inRange xAt yAt inRect isListed phaseOf referenceTime isLive livePhases firstToFail isRectangle steppedHeld newPlacements livePlacements stepped isHeld without withReport withoutId speedsPlaced rowsIn listedHeld isUseful usefulCells putInOrder idsInOrder summed answerTo changedBy idsOf next replyTo replies after
+numbers-as-said = refl

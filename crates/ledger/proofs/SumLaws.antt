@@ -21,7 +21,7 @@ unfolding summed
 summed-same f g [] h = refl
 summed-same f g (p ∷ ps) h = ap₂ _+_ (h p (List·Memᴰ·head refl)) (summed-same f g ps (λ k m. h k (List·Memᴰ·tail m)))
 
-summed-none : (ps : List ℕ) → summed (λ p. 0) ps ≡ 0
+pub summed-none : (ps : List ℕ) → summed (λ p. 0) ps ≡ 0
 unfolding summed
 summed-none [] = refl
 summed-none (p ∷ ps) = omega (arith, summed-none ps)

@@ -12,7 +12,7 @@ use Rattle.grid.specs.Units.{capacity}
 use Rattle.grid.specs.declared.Rect.{Rect}
 use Rattle.grid.specs.declared.Report.{Report}
 use Rattle.ledger.specs.Answers.{isAccepted}
-use Rattle.ledger.specs.Refusals.{check, firstToFail, badTime, badStepTime, badAskTime, badReport, badId, badAsk}
+use Rattle.ledger.specs.Refusals.{Check, check, firstToFail, badTime, badStepTime, badAskTime, badReport, badId, badAsk}
 use Rattle.ledger.specs.Machine.{Ledger, opened, stepped, isHeld, added, reported, dropped, idsListed, cellsRead, usefulRead, roundsTaken}
 use Rattle.ledger.specs.declared.Answer.{Answer}
 use Rattle.ledger.specs.declared.Answer.the-variants.{Accepted, Listed, BadTime, BadNumber, AlreadyHeld, NotHeld, Full, ListTooShort}
@@ -30,42 +30,54 @@ pub record Reply : Type 0 where
   pub answer : Answer
   pub ids : List ℕ
 
-abbrev pub answerOfOpen : ℤ → Answer
-answerOfOpen t = firstToFail (check (badTime t) BadTime ∷ []) (Accepted 0)
+-- ---- the checks of each call, in number order, and its answer where none fails
 
-unfoldable pub answerTo : Ledger → Call → Answer
-answerTo l (clock t) = firstToFail (check (badStepTime (l .now) t) BadTime ∷ []) (Accepted (length (l .held)))
-answerTo l (add r) =
-    firstToFail
-    (check (badStepTime (l .now) (r .t)) BadTime
+abbrev pub openChecks : ℤ → List Check
+openChecks t = check (badTime t) BadTime ∷ []
+
+abbrev pub answerOfOpen : ℤ → Answer
+answerOfOpen t = firstToFail (openChecks t) (Accepted 0)
+
+abbrev pub checksOf : Ledger → Call → List Check
+checksOf l (clock t) = check (badStepTime (l .now) t) BadTime ∷ []
+checksOf l (add r) =
+    check (badStepTime (l .now) (r .t)) BadTime
     ∷ check (badReport r) BadNumber
     ∷ check (isHeld (r .id) (l .held)) AlreadyHeld
     ∷ check (leb capacity (length (l .held))) Full
-    ∷ [])
-    (Accepted (length (added r l .held)))
-answerTo l (report r) =
-    firstToFail
-    (check (badStepTime (l .now) (r .t)) BadTime
+    ∷ []
+checksOf l (report r) =
+    check (badStepTime (l .now) (r .t)) BadTime
     ∷ check (badReport r) BadNumber
     ∷ check (not (isHeld (r .id) (l .held))) NotHeld
-    ∷ [])
-    (Accepted (length (reported r l .held)))
-answerTo l (drop id t) =
-    firstToFail
-    (check (badStepTime (l .now) t) BadTime
+    ∷ []
+checksOf l (drop id t) =
+    check (badStepTime (l .now) t) BadTime
     ∷ check (badId id) BadNumber
     ∷ check (not (isHeld id (l .held))) NotHeld
-    ∷ [])
-    (Accepted (length (dropped id t l .held)))
-answerTo l (ask method asked q room) =
-    let m = up method in
-    let needed = length (idsListed l m asked q) in
-    firstToFail
-    (check (badAskTime (l .now) asked) BadTime
+    ∷ []
+checksOf l (ask method asked q room) =
+    let needed = length (idsListed l (up method) asked q) in
+    check (badAskTime (l .now) asked) BadTime
     ∷ check (badAsk method q) BadNumber
     ∷ check (ltb room needed) (ListTooShort needed)
-    ∷ [])
-    (Listed needed (cellsRead l m asked q) (usefulRead l m asked q) (roundsTaken l m asked q))
+    ∷ []
+
+abbrev pub ifNoneFails : Ledger → Call → Answer
+ifNoneFails l (clock t) = Accepted (length (l .held))
+ifNoneFails l (add r) = Accepted (length (added r l .held))
+ifNoneFails l (report r) = Accepted (length (reported r l .held))
+ifNoneFails l (drop id t) = Accepted (length (dropped id t l .held))
+ifNoneFails l (ask method asked q room) =
+    let m = up method in
+    Listed
+    (length (idsListed l m asked q))
+    (cellsRead l m asked q)
+    (usefulRead l m asked q)
+    (roundsTaken l m asked q)
+
+unfoldable pub answerTo : Ledger → Call → Answer
+answerTo l call = firstToFail (checksOf l call) (ifNoneFails l call)
 
 -- what an accepted call leaves
 unfoldable pub changedBy : Ledger → Call → Ledger

@@ -2,4 +2,5 @@ pub mod Answers
 pub mod Refusals
 pub mod Machine
 pub mod Calls
+pub mod Claims
 pub mod Sightings

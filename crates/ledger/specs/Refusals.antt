@@ -1,13 +1,16 @@
--- When a call is declined for its numbers: document 01's table, rows 3 and 4, and the rule that the first check to fail is given.
+-- When a call is declined for its numbers: document 01's table, rows 3 and 4, and the rule that the checks
+-- stand in number order and the first to fail is given.
 -- Assumes nothing.
 use mathlib.Core.Bool.{Bool, true, false, _&&_, _||_, not}
 use mathlib.Core.List.{List, [], _∷_}
+use lib.Dec.{ltb}
 use lib.IntN.{ℤ, pos, _+ℤ_, _-ℤ_}
 use lib.Signed.{leZ, ltZ}
 use Rattle.ints.specs.Whole.{between}
 use Rattle.grid.specs.Reports.{isTime, isId, isPosition, inRange}
 use Rattle.grid.specs.declared.Rect.{Rect}
 use Rattle.grid.specs.declared.Report.{Report}
+use Rattle.ledger.specs.Answers.{numberOf}
 use Rattle.ledger.specs.declared.Answer.{Answer}
 
 -- one check: whether it fails, and the answer given then
@@ -22,10 +25,16 @@ abbrev pub unless : Bool → Answer → Answer → Answer
 unless true a b = a
 unless false a b = b
 
--- checks run in number order, and the first to fail is given; with none the call is accepted
+-- checks run one by one, and the first to fail is given; with none the call is accepted
 unfoldable pub firstToFail : List Check → Answer → Answer
 firstToFail [] accepted = accepted
 firstToFail (c ∷ cs) accepted = unless (c .fails) (c .answer) (firstToFail cs accepted)
+
+-- each check's number is below that of the check after it
+unfoldable pub inNumberOrder : List Check → Bool
+inNumberOrder [] = true
+inNumberOrder (c ∷ []) = true
+inNumberOrder (c ∷ d ∷ more) = ltb (numberOf (c .answer)) (numberOf (d .answer)) && inNumberOrder (d ∷ more)
 
 -- 3, for open: time outside its range
 abbrev pub badTime : ℤ → Bool

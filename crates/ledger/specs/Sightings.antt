@@ -1,5 +1,5 @@
--- The P cases of document 01, all twelve, its listing, and a worked list with each refusal from 3 on: what the definitions give, and what the
--- document says.
+-- The P cases of document 01, all twelve, its listing, a worked list with each refusal from 3 on, and each number from 3 on: what the
+-- definitions give, and what the document says.
 -- Assumes nothing.
 use mathlib.Core.List.{List, [], _∷_, _++_}
 use Prim.Native.Nat.{ℕ}
@@ -9,7 +9,7 @@ use Rattle.grid.specs.Sightings.{Sighting}
 use Rattle.grid.specs.Sightings as Grid
 use Rattle.grid.specs.declared.Rect.{Rect}
 use Rattle.grid.specs.declared.Report.{Report}
-use Rattle.ledger.specs.Answers.{valueOf, countsOf}
+use Rattle.ledger.specs.Answers.{numberOf, valueOf, countsOf}
 use Rattle.ledger.specs.Machine.{Ledger, Held, Placement, opened}
 use Rattle.ledger.specs.Calls.{Call, Reply, clock, add, report, drop, ask, after, answerTo}
 use Rattle.ledger.specs.declared.Answer.{Answer}
@@ -146,3 +146,18 @@ crowd n = record {
   held = replicate n (record { report = sent 1 0 0 0 (pos 0) (pos 0); phase = 0 });
   placements = [];
 }
+
+-- each number that the ledger gives, of a call that is given it: one float held, opened at 3,600, and for 7 a full ledger
+unfoldable pub ledgerOfOne : Ledger
+ledgerOfOne = after (opened (pos 3600)) (add (sent 5 3600 1000 1000 (pos 1) (pos 1)) ∷ [])
+
+unfoldable pub numbers : List Sighting
+numbers =
+    record { given = numberOf (answerTo ledgerOfOne (clock (pos 3600))); said = 0 }
+    ∷ record { given = numberOf (answerTo ledgerOfOne (clock (pos 3599))); said = 3 }
+    ∷ record { given = numberOf (answerTo ledgerOfOne (drop (pos 0) (pos 3600))); said = 4 }
+    ∷ record { given = numberOf (answerTo ledgerOfOne (add (sent 5 3600 0 0 (pos 0) (pos 0)))); said = 5 }
+    ∷ record { given = numberOf (answerTo ledgerOfOne (drop (pos 6) (pos 3600))); said = 6 }
+    ∷ record { given = numberOf (answerTo (crowd 1024) (add (sent 2 0 0 0 (pos 0) (pos 0)))); said = 7 }
+    ∷ record { given = numberOf (answerTo ledgerOfOne (ask (pos 3) (pos 3600) (rectangle 0 0 2000 2000) 0)); said = 8 }
+    ∷ []

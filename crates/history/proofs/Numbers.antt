@@ -1,0 +1,74 @@
+-- No call of a list is answered with number 1 or 2: the ledger's checks begin at 3, and every answer is the ledger's. And the numbers that the index
+-- gives over buffers of the wrong length or unsound ones, computed.
+-- Assumes nothing.
+use mathlib.Core.Path.{_≡_, refl, ap, subst}
+use mathlib.Core.Bool.{Bool, true, false}
+use mathlib.Core.List.{List, [], _∷_, map, List·Memᴰ, List·Memᴰ·cases-cons, List·Memᴰ·not-nil}
+use mathlib.Core.Logic.{⊎-elim}
+use Prim.Native.Nat.{ℕ, _+_}
+use native.Mathlib.Omega.{arith}
+use Rattle.grid.specs.Sightings.{Sighting}
+use Rattle.store.specs.Soundness.{isSoundStore, isSound}
+use Rattle.ledger.specs.Answers.{numberOf}
+use Rattle.ledger.specs.Refusals.{Check, unless, firstToFail}
+use Rattle.ledger.specs.Machine.{Ledger, opened}
+use Rattle.ledger.specs.Calls as L
+use Rattle.ledger.specs.Calls.{Call, Reply}
+use Rattle.ledger.specs.declared.Answer.{Answer}
+use Rattle.engine.specs.Index.{settled, openOut, clockOut}
+use Rattle.history.specs.Index.{fedAll}
+use Rattle.history.specs.Claims.{OneAndTwoNeverComeUp}
+use Rattle.history.specs.Sightings.{numbers}
+use Rattle.history.proofs.Claims.{every-history-is-the-ledgers}
+
+abbrev NotLent : ℕ → Type 0
+NotLent n = (n ≡ 1 → ⊥) × (n ≡ 2 → ⊥)
+
+none-lent : NotLent 0
+none-lent = (λ e. omega arith, λ e. omega arith)
+
+later-lent : (k : ℕ) → NotLent (3 + k)
+later-lent k = (λ e. omega arith, λ e. omega arith)
+
+-- what holds of each check's number and of the accepted answer's holds of the answer's
+AllNotLent : List Check → Type 0
+AllNotLent [] = Unit {0}
+AllNotLent (c ∷ cs) = NotLent (numberOf (c .answer)) × AllNotLent cs
+
+first-not-lent : (cs : List Check) (accepted : Answer) → AllNotLent cs → NotLent (numberOf accepted) → NotLent (numberOf (firstToFail cs accepted))
+unfolding firstToFail AllNotLent
+first-not-lent [] accepted all h = h
+first-not-lent (c ∷ cs) accepted all h = go (c .fails) (first-not-lent cs accepted (all .1) h)
+  where
+    go : (b : Bool) → NotLent (numberOf (firstToFail cs accepted)) → NotLent (numberOf (unless b (c .answer) (firstToFail cs accepted)))
+    go true k = all .0
+    go false k = k
+
+answer-not-lent : (l : Ledger) (call : Call) → NotLent (numberOf (L.answerTo l call))
+unfolding L.answerTo AllNotLent
+answer-not-lent l (L.clock t) = first-not-lent _ _ (later-lent 0, tt) none-lent
+answer-not-lent l (L.add r) = first-not-lent _ _ (later-lent 0, (later-lent 1, (later-lent 2, (later-lent 4, tt)))) none-lent
+answer-not-lent l (L.report r) = first-not-lent _ _ (later-lent 0, (later-lent 1, (later-lent 3, tt))) none-lent
+answer-not-lent l (L.drop id t) = first-not-lent _ _ (later-lent 0, (later-lent 1, (later-lent 3, tt))) none-lent
+answer-not-lent l (L.ask method asked q room) =
+    first-not-lent _ _ (later-lent 0, (later-lent 1, (later-lent 5, tt))) none-lent
+
+replies-not-lent : (calls : List Call) (l : Ledger) (r : Reply) → List·Memᴰ r (L.replies l calls) → NotLent (numberOf (r .answer))
+unfolding L.replies L.replyTo
+replies-not-lent [] l r m = absurd (List·Memᴰ·not-nil m)
+replies-not-lent (call ∷ calls) l r m =
+    ⊎-elim
+    (λ (e : r ≡ L.replyTo l call). rw (ap (λ (k : Reply). numberOf (k .answer)) e) (answer-not-lent l call))
+    (λ k. replies-not-lent calls (L.next l call) r k)
+    (List·Memᴰ·cases-cons m)
+
+pub one-and-two-never-come-up : OneAndTwoNeverComeUp
+one-and-two-never-come-up s t time accepted calls r m =
+    replies-not-lent (fedAll calls) (opened time) r
+    (subst (λ (rs : List Reply). List·Memᴰ r rs) (every-history-is-the-ledgers s t time accepted calls) m)
+
+-- ---- computed
+
+pub numbers-as-said : map (λ (s : Sighting). s .given) numbers ≡ map (λ (s : Sighting). s .said) numbers
+unfolding numbers settled openOut clockOut firstToFail isSound isSoundStore
+numbers-as-said = refl

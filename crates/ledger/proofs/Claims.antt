@@ -1,0 +1,134 @@
+-- The claims of specs/Claims.antt, proved: the checks stand in number order, the first to fail is given, and a refusal has neither counts nor,
+-- but for 8, a value.
+-- Assumes nothing.
+use mathlib.Core.Path.{_≡_, refl, sym, ap, _∙_}
+use mathlib.Core.Bool.{Bool, true, false}
+use mathlib.Core.List.{List, [], _∷_, _++_, List·Memᴰ, List·Memᴰ·head, List·Memᴰ·tail, List·Memᴰ·cases-cons, List·Memᴰ·not-nil}
+use mathlib.Core.Logic.{⊎-elim}
+use Prim.Native.Nat.{ℕ, _≤_, _<_}
+use native.Mathlib.Omega.{arith}
+use lib.Dec.{eqb, ltb}
+use borrow.Author.Tests.{ltb-true}
+use Rattle.ints.proofs.Parts.{true-false}
+use Rattle.ints.proofs.Truth.{and-left, and-right}
+use Rattle.ledger.specs.Answers.{numberOf, valueOf, noCounts, countsOf, isAccepted}
+use Rattle.ledger.specs.Refusals.{Check, unless, firstToFail, inNumberOrder}
+use Rattle.ledger.specs.Machine.{Ledger}
+use Rattle.ledger.specs.Calls.{Call, clock, add, report, drop, ask, checksOf}
+use Rattle.ledger.specs.Claims.{ChecksStandInOrder, FirstFails, FirstToFailIsGiven, LeastNumberIsGiven, RefusalIsPlain, RefusalsArePlain}
+use Rattle.ledger.specs.declared.Answer.{Answer}
+use Rattle.ledger.specs.declared.Answer.the-variants.{Accepted, Listed, WrongLength, Unsound, BadTime, BadNumber, AlreadyHeld, NotHeld, Full, ListTooShort}
+
+-- ---- number order
+
+calls-in-order : (l : Ledger) (call : Call) → inNumberOrder (checksOf l call) ≡ true
+unfolding inNumberOrder
+calls-in-order l (clock t) = refl
+calls-in-order l (add r) = refl
+calls-in-order l (report r) = refl
+calls-in-order l (drop id t) = refl
+calls-in-order l (ask method asked q room) = refl
+
+pub checks-stand-in-order : ChecksStandInOrder
+unfolding inNumberOrder
+checks-stand-in-order = (λ t. refl, calls-in-order)
+
+-- ---- the first to fail
+
+first-given :
+    (before : List Check) (c : Check) (behind : List Check) (accepted : Answer)
+    → ((b : Check) → List·Memᴰ b before → b .fails ≡ false)
+    → c .fails ≡ true
+    → firstToFail (before ++ c ∷ behind) accepted ≡ c .answer
+unfolding firstToFail
+first-given [] c behind accepted passed failed = ap (λ (t : Bool). unless t (c .answer) (firstToFail behind accepted)) failed
+first-given (b ∷ before) c behind accepted passed failed =
+    ap (λ (t : Bool). unless t (b .answer) (firstToFail (before ++ c ∷ behind) accepted)) (passed b (List·Memᴰ·head refl))
+    ∙ first-given before c behind accepted (λ d m. passed d (List·Memᴰ·tail m)) failed
+
+-- one more check that passes stands before it
+first-later : {c : Check} {cs : List Check} (b : Check) → b .fails ≡ false → FirstFails c cs → FirstFails c (b ∷ cs)
+first-later b e f = record {
+  before = b ∷ f .before;
+  behind = f .behind;
+  checks-are = ap (λ (l : List Check). b ∷ l) (f .checks-are);
+  passed = λ d m. ⊎-elim (λ (same : d ≡ b). ap (λ (k : Check). k .fails) same ∙ e) (λ k. f .passed d k) (List·Memᴰ·cases-cons m);
+  failed = f .failed;
+}
+
+number-from : (cs : List Check) (accepted : Answer) (n : ℕ) → (numberOf accepted ≡ n → ⊥) → numberOf (firstToFail cs accepted) ≡ n → (c : Check) × FirstFails c cs × (numberOf (c .answer) ≡ n)
+unfolding firstToFail
+number-from [] accepted n other e = absurd (other e)
+number-from (c ∷ cs) accepted n other e = go (c .fails) refl (number-from cs accepted n other) e
+  where
+    go :
+        (t : Bool)
+        → c .fails ≡ t
+        → (numberOf (firstToFail cs accepted) ≡ n → (d : Check) × FirstFails d cs × (numberOf (d .answer) ≡ n))
+        → numberOf (unless t (c .answer) (firstToFail cs accepted)) ≡ n → (d : Check) × FirstFails d (c ∷ cs) × (numberOf (d .answer) ≡ n)
+    go true f later k =
+        (c, record { before = []; behind = cs; checks-are = refl; passed = λ b m. absurd (List·Memᴰ·not-nil m); failed = f }, k)
+    go false f later k = let a = later k in (a .0, first-later c f (a .1), a .2)
+
+pub first-to-fail-is-given : FirstToFailIsGiven
+first-to-fail-is-given cs accepted = record {
+  given = λ c f. ap (λ (l : List Check). firstToFail l accepted) (f .checks-are) ∙ first-given (f .before) c (f .behind) accepted (f .passed) (f .failed);
+  only-then = number-from cs accepted;
+}
+
+-- ---- the least number
+
+order-rest : (c : Check) (cs : List Check) → inNumberOrder (c ∷ cs) ≡ true → inNumberOrder cs ≡ true
+unfolding inNumberOrder
+order-rest c [] h = refl
+order-rest c (d ∷ more) h =
+    and-right (ltb (numberOf (c .answer)) (numberOf (d .answer))) (inNumberOrder (d ∷ more)) h
+
+-- the first has the least number
+first-least : (c : Check) (cs : List Check) → inNumberOrder (c ∷ cs) ≡ true → (d : Check) → List·Memᴰ d cs → numberOf (c .answer) ≤ numberOf (d .answer)
+unfolding inNumberOrder
+first-least c [] h d m = absurd (List·Memᴰ·not-nil m)
+first-least c (b ∷ more) h d m =
+    let low = numberOf (c .answer) in
+    let high = numberOf (b .answer) in
+    let less : low < high = ltb-true low high (and-left (ltb low high) (inNumberOrder (b ∷ more)) h) in
+    ⊎-elim
+    (λ (same : d ≡ b). let e : numberOf (d .answer) ≡ high = ap (λ (k : Check). numberOf (k .answer)) same in omega arith)
+    (λ k. let rest = first-least b more (order-rest c (b ∷ more) h) d k in omega arith)
+    (List·Memᴰ·cases-cons m)
+
+pub least-number-is-given : LeastNumberIsGiven
+unfolding firstToFail
+least-number-is-given [] accepted h d m f = absurd (List·Memᴰ·not-nil m)
+least-number-is-given (c ∷ cs) accepted h d m f =
+    go (c .fails) refl (λ k. least-number-is-given cs accepted (order-rest c cs h) d k f)
+  where
+    go : (t : Bool) → c .fails ≡ t → (List·Memᴰ d cs → numberOf (firstToFail cs accepted) ≤ numberOf (d .answer)) → numberOf (unless t (c .answer) (firstToFail cs accepted)) ≤ numberOf (d .answer)
+    go true e later =
+        ⊎-elim
+        (λ (same : d ≡ c). let k : numberOf (d .answer) ≡ numberOf (c .answer) = ap (λ (x : Check). numberOf (x .answer)) same in omega arith)
+        (λ k. first-least c cs h d k)
+        (List·Memᴰ·cases-cons m)
+    go false e later =
+        ⊎-elim (λ (same : d ≡ c). absurd (true-false (sym f ∙ ap (λ (x : Check). x .fails) same ∙ e))) later (List·Memᴰ·cases-cons m)
+
+-- ---- what a refusal gives back
+
+accepted-plain : {a : Answer} → isAccepted a ≡ eqb (numberOf a) 0 → isAccepted a ≡ true → RefusalIsPlain a
+accepted-plain e h =
+    record { number-tells = e; no-counts = λ n. absurd (true-false (sym h ∙ n)); no-value = λ n. absurd (true-false (sym h ∙ n)) }
+
+refused-plain : {a : Answer} → isAccepted a ≡ eqb (numberOf a) 0 → countsOf a ≡ noCounts → ((numberOf a ≡ 8 → ⊥) → valueOf a ≡ 0) → RefusalIsPlain a
+refused-plain e c v = record { number-tells = e; no-counts = λ n. c; no-value = λ n. v }
+
+pub refusals-are-plain : RefusalsArePlain
+refusals-are-plain (Accepted held) = accepted-plain refl refl
+refusals-are-plain (Listed ids cells useful rounds) = accepted-plain refl refl
+refusals-are-plain WrongLength = refused-plain refl refl (λ n. refl)
+refusals-are-plain Unsound = refused-plain refl refl (λ n. refl)
+refusals-are-plain BadTime = refused-plain refl refl (λ n. refl)
+refusals-are-plain BadNumber = refused-plain refl refl (λ n. refl)
+refusals-are-plain AlreadyHeld = refused-plain refl refl (λ n. refl)
+refusals-are-plain NotHeld = refused-plain refl refl (λ n. refl)
+refusals-are-plain Full = refused-plain refl refl (λ n. refl)
+refusals-are-plain (ListTooShort needed) = refused-plain refl refl (λ n. absurd (n refl))

@@ -1,0 +1,54 @@
+-- What is claimed of refusals: document 01, "What a call gives back when it declines", its first two sentences and the rule on values.
+-- Assumes nothing.
+use mathlib.Core.Path.{_≡_}
+use mathlib.Core.Bool.{true, false}
+use mathlib.Core.List.{List, _∷_, _++_, List·Memᴰ}
+use Prim.Native.Nat.{ℕ, _≤_}
+use lib.Dec.{eqb}
+use lib.IntN.{ℤ}
+use Rattle.ledger.specs.Answers.{numberOf, valueOf, noCounts, countsOf, isAccepted}
+use Rattle.ledger.specs.Refusals.{Check, firstToFail, inNumberOrder}
+use Rattle.ledger.specs.Machine.{Ledger}
+use Rattle.ledger.specs.Calls.{Call, openChecks, checksOf}
+use Rattle.ledger.specs.declared.Answer.{Answer}
+
+-- checks run in number order (S15): those of open and of each later call stand in it
+abbrev pub ChecksStandInOrder : Type 0
+ChecksStandInOrder =
+    ((t : ℤ) → inNumberOrder (openChecks t) ≡ true)
+    × ((l : Ledger) (call : Call) → inNumberOrder (checksOf l call) ≡ true)
+
+-- a check that fails, and each before it passes
+pub record FirstFails (c : Check) (cs : List Check) : Type 0 where
+  pub before : List Check
+  pub behind : List Check
+  pub checks-are : cs ≡ before ++ c ∷ behind
+  pub passed : (b : Check) → List·Memᴰ b before → b .fails ≡ false
+  pub failed : c .fails ≡ true
+
+-- the first to fail is given, and a number is given only then (S2)
+pub record GivesTheFirst (cs : List Check) (accepted : Answer) : Type 0 where
+  pub given : (c : Check) → FirstFails c cs → firstToFail cs accepted ≡ c .answer
+  pub only-then : (n : ℕ) → (numberOf accepted ≡ n → ⊥) → numberOf (firstToFail cs accepted) ≡ n → (c : Check) × FirstFails c cs × (numberOf (c .answer) ≡ n)
+
+abbrev pub FirstToFailIsGiven : Type 0
+FirstToFailIsGiven = (cs : List Check) (accepted : Answer) → GivesTheFirst cs accepted
+
+-- of checks in number order that fail, the one of least number is given
+abbrev pub LeastNumberIsGiven : Type 0
+LeastNumberIsGiven =
+    (cs : List Check) (accepted : Answer)
+    → inNumberOrder cs ≡ true
+    → (c : Check)
+    → List·Memᴰ c cs
+    → c .fails ≡ true
+    → numberOf (firstToFail cs accepted) ≤ numberOf (c .answer)
+
+-- number 0 is that of an accepted call; a refused one has no counts, and every number but 8 returns 0 (S2)
+pub record RefusalIsPlain (a : Answer) : Type 0 where
+  pub number-tells : isAccepted a ≡ eqb (numberOf a) 0
+  pub no-counts : isAccepted a ≡ false → countsOf a ≡ noCounts
+  pub no-value : isAccepted a ≡ false → (numberOf a ≡ 8 → ⊥) → valueOf a ≡ 0
+
+abbrev pub RefusalsArePlain : Type 0
+RefusalsArePlain = (a : Answer) → RefusalIsPlain a
