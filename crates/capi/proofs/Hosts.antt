@@ -1,7 +1,7 @@
 -- The claim of specs/Hosts.antt: each exported call replies and leaves the words as the index's definition of it does, so what is seen of a list is
 -- what the index replies to it, and that is the ledger's by the claim over every list.
 -- Assumes nothing.
-use mathlib.Core.Path.{_≡_, refl, sym, ap, ap₂, subst, _∙_}
+use mathlib.Core.Path.{_≡_, refl, sym, ap, ap₂, _∙_}
 use mathlib.Core.Bool.{Bool, true, cond}
 use mathlib.Core.List.{List, [], _∷_, map}
 use Prim.Native.Nat.{ℕ}
@@ -12,7 +12,7 @@ use Rattle.ledger.specs.Answers.{numberOf, valueOf, isAccepted}
 use Rattle.ledger.specs.Machine.{opened}
 use Rattle.ledger.specs.Calls as Ledger
 use Rattle.ledger.specs.declared.Answer.{Answer}
-use Rattle.ledger.specs.declared.Answer.the-variants.{Accepted, Listed, WrongLength, Unsound, BadTime, BadNumber, AlreadyHeld, NotHeld, Full, ListTooShort}
+use Rattle.ledger.proofs.Claims.{refusals-are-plain}
 use Rattle.engine.specs.Index.{Outcome, AskOutcome, openOut, askOut}
 use Rattle.history.specs.Index as Index
 use Rattle.history.specs.Index.{Words, LentCall, fedAll, openedWords, replyOfAsk, wordsOf}
@@ -30,16 +30,7 @@ lent (drop id t) = Index.drop id t
 lent (ask method asked lowX lowY highX highY list) = Index.ask method asked (rectOf lowX lowY highX highY) list
 
 accepted-number : (a : Answer) → eqb (numberOf a) 0 ≡ isAccepted a
-accepted-number (Accepted held) = refl
-accepted-number (Listed ids cells useful rounds) = refl
-accepted-number WrongLength = refl
-accepted-number Unsound = refl
-accepted-number BadTime = refl
-accepted-number BadNumber = refl
-accepted-number AlreadyHeld = refl
-accepted-number NotHeld = refl
-accepted-number Full = refl
-accepted-number (ListTooShort needed) = refl
+accepted-number a = sym (refusals-are-plain a .number-tells)
 
 -- one call: what is seen of it, and the words after it
 record Agrees (w : Words) (call : HostCall) (seen : Seen) (after : Words) : Type 0 where
