@@ -1,7 +1,7 @@
 // The index for programs in C and Rust: the six calls over pointers and lengths, with any numbers and any buffers, and the soundness test alone.
 // Each call gives back the number, the value and the counts that document 01 has for its answer, and leaves the words that its definition says.
 ghost use mathlib.Core.Path.{_≡_};
-ghost use Rattle.store.specs.Soundness.{isSound};
+ghost use Rattle.records.specs.Soundness.{isSound};
 ghost use Rattle.engine.specs.Index.{openOut, clockOut, addOut, reportOut, dropOut, askOut};
 ghost use Rattle.capi.specs.Replies.{replyOf, plain, reportOf, rectOf, Replies, RepliesList};
 use grid::Range;
@@ -177,5 +177,5 @@ pub extern "C" fn float_index_ask(
 pub extern "C" fn float_index_is_sound(store: &[i32], table: &[i16]) -> bool
     ensures { λ r. ⌜ r ≡ isSound (now (store .entry)) (now (table .entry)) ⌝ }
 {
-    store::soundness::is_sound(store, table)
+    records::soundness::is_sound(store, table)
 }

@@ -33,14 +33,14 @@ use Rattle.methods.specs.Chosen.{rowsOfSlot}
 use Rattle.methods.specs.Claims.{Asked, Reads}
 use Rattle.methods.proofs.Claims.{no-float-is-missed}
 use Rattle.methods.proofs.SetLaws.{mark-of-cell}
-use Rattle.store.specs.Records.{nowOf, recordsOf}
-use Rattle.store.specs.Order.{slotOfKey, numberOfKey, phaseOfKey}
-use Rattle.store.specs.Reading.{inSet, isRead}
-use Rattle.store.specs.declared.Record.{Record}
-use Rattle.store.proofs.SoundLawsRanges.{time-from}
-use Rattle.store.proofs.SoundLawsKeys.{number-of-key-in}
-use Rattle.store.proofs.SoundLaws.{SoundRecord, all-sound-each, speeds-each, Sound}
-use Rattle.store.proofs.ListedLaws.{listed-is}
+use Rattle.records.specs.Records.{nowOf, recordsOf}
+use Rattle.records.specs.Order.{slotOfKey, numberOfKey, phaseOfKey}
+use Rattle.reading.specs.Reading.{inSet, isRead}
+use Rattle.records.specs.declared.Record.{Record}
+use Rattle.records.proofs.SoundLawsRanges.{time-from}
+use Rattle.records.proofs.SoundLawsKeys.{number-of-key-in}
+use Rattle.records.proofs.SoundLaws.{SoundRecord, all-sound-each, speeds-each, Sound}
+use Rattle.reading.proofs.ListedLaws.{listed-is}
 use Rattle.ledger.specs.Refusals.{badAskTime, badAsk, isRectangle}
 use Rattle.ledger.proofs.SumLaws.{summed-same, phases-summed}
 use Rattle.engine.specs.Index.{choiceOf, marksIn, listedOf, idsNeeded}

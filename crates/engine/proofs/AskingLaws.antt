@@ -25,14 +25,14 @@ use Rattle.methods.specs.Chosen.{IsSlot, IsAsk, ChosenBy, rowsOfSlot}
 use Rattle.methods.specs.declared.Block.{Block}
 use Rattle.methods.proofs.Nesting.{next}
 use Rattle.methods.proofs.Rounds.{none-is, same-is, onward-is}
-use Rattle.store.specs.Records.{storeWords, nowOf, recordsOf}
+use Rattle.records.specs.Records.{storeWords, nowOf, recordsOf}
 use Rattle.rows.specs.Table.{tableWords}
-use Rattle.store.specs.Soundness.{IsStore}
-use Rattle.store.specs.Reading.{ReadingOf, SmallReading, inSet, hasKey, listedIn, isRead, cellsIn, usefulIn, withIds, rising}
-use Rattle.store.specs.declared.Record.{Record}
-use Rattle.store.specs.declared.reading.Reading.{Reading}
-use Rattle.store.proofs.SoundLaws as Sound
-use Rattle.store.proofs.SoundLawsRanges.{between-from, last-phase}
+use Rattle.records.specs.Soundness.{IsStore}
+use Rattle.reading.specs.Reading.{ReadingOf, SmallReading, inSet, hasKey, listedIn, isRead, cellsIn, usefulIn, withIds, rising}
+use Rattle.records.specs.declared.Record.{Record}
+use Rattle.reading.specs.declared.Reading.{Reading}
+use Rattle.records.proofs.SoundLaws as Sound
+use Rattle.records.proofs.SoundLawsRanges.{between-from, last-phase}
 use Rattle.ledger.specs.Refusals.{check, firstToFail, isRectangle, badAskTime, badAsk}
 use Rattle.ledger.specs.declared.Answer.{Answer}
 use Rattle.ledger.specs.declared.Answer.the-variants.{Listed, WrongLength, Unsound, BadTime, BadNumber, ListTooShort}

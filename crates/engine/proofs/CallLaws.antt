@@ -22,14 +22,14 @@ use Rattle.grid.specs.declared.Rect.{Rect}
 use Rattle.grid.specs.declared.Report.{Report}
 use Rattle.rows.specs.Phases.{phaseOf}
 use Rattle.rows.specs.Table.{tableWords}
-use Rattle.store.specs.Records.{storeWords, nowOf, recordsOf, storeOf}
-use Rattle.store.specs.Order.{hasId, isSorted}
-use Rattle.store.specs.Soundness.{isSound, allRanged, IsStore}
+use Rattle.records.specs.Records.{storeWords, nowOf, recordsOf, storeOf}
+use Rattle.records.specs.Order.{hasId, isSorted}
+use Rattle.records.specs.Soundness.{isSound, allRanged, IsStore}
 use Rattle.store.specs.Changes.{inserted, removed, placedIn}
-use Rattle.store.specs.declared.Record.{Record}
-use Rattle.store.proofs.RecordLaws.{now-of-store, records-of-store}
+use Rattle.records.specs.declared.Record.{Record}
+use Rattle.records.proofs.RecordLaws.{now-of-store, records-of-store}
 use Rattle.store.proofs.KeepLaws.{stepped-length, stepped-ranged, stepped-sorted, has-stepped, removed-sorted, removed-ranged, removed-length}
-use Rattle.store.proofs.SoundLaws as Sound
+use Rattle.records.proofs.SoundLaws as Sound
 use Rattle.ledger.specs.Answers.{isAccepted}
 use Rattle.ledger.specs.Refusals.{Check, check, unless, firstToFail, badStepTime, badAskTime, badReport, badAsk}
 use Rattle.ledger.specs.declared.Answer.{Answer}

@@ -11,13 +11,13 @@ use lib.ListN.{length}
 use borrow.Author.Tests.{eq-eqb, not-false}
 use Rattle.ints.proofs.Parts.{true-false}
 use Rattle.ints.proofs.Truth.{and-true}
-use Rattle.store.specs.Records.{storeWords, nowOf, recordsOf}
-use Rattle.store.proofs.RecordLaws.{store-length}
-use Rattle.store.specs.Soundness.{isSound, IsStore}
-use Rattle.store.specs.Order.{hasId}
+use Rattle.records.specs.Records.{storeWords, nowOf, recordsOf}
+use Rattle.records.proofs.RecordLaws.{store-length}
+use Rattle.records.specs.Soundness.{isSound, IsStore}
+use Rattle.records.specs.Order.{hasId}
 use Rattle.store.specs.Changes.{removed, steppedRecords}
 use Rattle.store.proofs.KeepLaws.{removed-length, has-stepped, stepped-length}
-use Rattle.store.proofs.SoundLaws as Sound
+use Rattle.records.proofs.SoundLaws as Sound
 use Rattle.rows.specs.Phases.{phaseOf}
 use Rattle.rows.specs.Table.{tableWords}
 use Rattle.ledger.specs.Answers.{isAccepted}

@@ -15,11 +15,11 @@ use Rattle.methods.specs.Chosen.{rowsOfSlot}
 use Rattle.methods.proofs.Claims.{choice-once}
 use Rattle.methods.proofs.ChoiceLaws.{choice-on}
 use Rattle.methods.proofs.SetLaws.{marks-counted}
-use Rattle.store.specs.Records.{nowOf, recordsOf}
-use Rattle.store.specs.Reading.{cellsIn, hasKey, usefulIn}
-use Rattle.store.specs.declared.Record.{Record}
-use Rattle.store.proofs.SoundLaws.{Sound}
-use Rattle.store.proofs.ListedLaws.{cells-are, useful-are}
+use Rattle.records.specs.Records.{nowOf, recordsOf}
+use Rattle.reading.specs.Reading.{cellsIn, hasKey, usefulIn}
+use Rattle.records.specs.declared.Record.{Record}
+use Rattle.records.proofs.SoundLaws.{Sound}
+use Rattle.reading.proofs.ListedLaws.{cells-are, useful-are}
 use Rattle.ledger.specs.Machine.{summed}
 use Rattle.ledger.proofs.SumLaws.{summed-same}
 use Rattle.engine.specs.Index.{choiceOf, marksIn, listedOf, cellsCounted, usefulCounted}

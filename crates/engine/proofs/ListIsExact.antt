@@ -21,14 +21,14 @@ use Rattle.grid.specs.Units.{lastId}
 use Rattle.grid.specs.declared.Rect.{Rect}
 use Rattle.rows.specs.Phases.{phaseOf, livePhases, slotOf}
 use Rattle.rows.proofs.PhaseLaws.{live-listed}
-use Rattle.store.specs.Records.{nowOf, recordsOf}
-use Rattle.store.specs.Order.{slotOfKey, numberOfKey, hasId}
-use Rattle.store.specs.Soundness.{idsDistinct}
-use Rattle.store.specs.Reading.{inSet, isRead, withIds, risingFrom}
-use Rattle.store.specs.declared.Record.{Record}
-use Rattle.store.proofs.SoundLawsRanges.{ranges}
-use Rattle.store.proofs.SoundLaws.{SoundRecord, Sound, sound-parts}
-use Rattle.store.proofs.ListedLaws.{id-among, idOf, ids-marked, listed-is, rising-in, rising-has, rising-rises}
+use Rattle.records.specs.Records.{nowOf, recordsOf}
+use Rattle.records.specs.Order.{slotOfKey, numberOfKey, hasId}
+use Rattle.records.specs.Soundness.{idsDistinct}
+use Rattle.reading.specs.Reading.{inSet, isRead, withIds, risingFrom}
+use Rattle.records.specs.declared.Record.{Record}
+use Rattle.records.proofs.SoundLawsRanges.{ranges}
+use Rattle.records.proofs.SoundLaws.{SoundRecord, Sound, sound-parts}
+use Rattle.reading.proofs.ListedLaws.{id-among, idOf, ids-marked, listed-is, rising-in, rising-has, rising-rises}
 use Rattle.ledger.specs.Machine.{putInOrder}
 use Rattle.ledger.proofs.OrderLaws.{inOrder, in-order-in, in-order-has, in-order-length, Apart, empty, more, in-order-rising}
 use Rattle.engine.specs.Index.{marksIn, listedOf, foundIn, phasesNow, idsNeeded, idsFound}

@@ -15,11 +15,11 @@ use Rattle.grid.specs.declared.Rect.{Rect}
 use Rattle.grid.specs.declared.Report.{Report}
 use Rattle.rows.specs.Phases.{phaseOf, livePhases, slotOf, sinceReference}
 use Rattle.methods.specs.Chosen.{rowsOfSlot}
-use Rattle.store.specs.Records.{nowOf, recordsOf}
+use Rattle.records.specs.Records.{nowOf, recordsOf}
 use Rattle.store.specs.Changes.{removed}
-use Rattle.store.specs.Reading.{cellsIn, usefulIn}
-use Rattle.store.specs.Soundness.{isSound}
-use Rattle.store.specs.declared.Record.{Record}
+use Rattle.reading.specs.Reading.{cellsIn, usefulIn}
+use Rattle.records.specs.Soundness.{isSound}
+use Rattle.records.specs.declared.Record.{Record}
 use Rattle.store.proofs.KeepLaws.{stepped-length}
 use Rattle.ledger.specs.Answers.{valueOf, countsOf}
 use Rattle.ledger.specs.Refusals.{Check, check, unless, firstToFail, badTime, badAskTime, badAsk}

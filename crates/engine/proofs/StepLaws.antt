@@ -17,16 +17,16 @@ use Rattle.grid.specs.Reports.{isTime}
 use Rattle.rows.specs.Phases.{phaseOf, isLive, livePhases}
 use Rattle.rows.specs.Table.{withLaterEmpty, withNewlyLiveEmpty}
 use Rattle.rows.proofs.PhaseLaws.{phase-is, live-range, listed-live}
-use Rattle.store.specs.Records.{nowOf, recordsOf, storeOf}
-use Rattle.store.specs.Order.{isSorted}
-use Rattle.store.specs.Soundness.{isSound, allRanged, IsStore}
+use Rattle.records.specs.Records.{nowOf, recordsOf, storeOf}
+use Rattle.records.specs.Order.{isSorted}
+use Rattle.records.specs.Soundness.{isSound, allRanged, IsStore}
 use Rattle.store.specs.Changes.{livesOn, kept, replaced, insertedAll, steppedRecords, withSpeeds}
-use Rattle.store.specs.declared.Record.{Record}
-use Rattle.store.proofs.RecordLaws.{now-of-store, records-of-store, store-length}
+use Rattle.records.specs.declared.Record.{Record}
+use Rattle.records.proofs.RecordLaws.{now-of-store, records-of-store, store-length}
 use Rattle.store.proofs.KeepLaws.{stepped-length, stepped-ranged, stepped-sorted}
-use Rattle.store.proofs.SoundLaws as Sound
-use Rattle.store.proofs.SoundLawsKeys.{right-placed}
-use Rattle.store.proofs.SoundLawsRanges.{last-phase}
+use Rattle.records.proofs.SoundLaws as Sound
+use Rattle.records.proofs.SoundLawsKeys.{right-placed}
+use Rattle.records.proofs.SoundLawsRanges.{last-phase}
 use Rattle.engine.specs.Index.{recordsAfterStep, tableAfterStep}
 use Rattle.engine.specs.Gives.{CanMove, Moved, CanStep, Stepped}
 

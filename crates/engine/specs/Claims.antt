@@ -9,9 +9,9 @@ use lib.ListN.{length, replicate}
 use Rattle.ints.specs.Whole.{up}
 use Rattle.grid.specs.Reports.{isListed}
 use Rattle.grid.specs.declared.Rect.{Rect}
-use Rattle.store.specs.Records.{nowOf, recordsOf}
-use Rattle.store.specs.Soundness.{isSound}
-use Rattle.store.specs.declared.Record.{Record}
+use Rattle.records.specs.Records.{nowOf, recordsOf}
+use Rattle.records.specs.Soundness.{isSound}
+use Rattle.records.specs.declared.Record.{Record}
 use Rattle.ledger.specs.Refusals.{badAskTime, badAsk}
 use Rattle.ledger.specs.Machine.{putInOrder}
 use Rattle.engine.specs.Index.{idsNeeded, idsFound}

@@ -12,10 +12,10 @@ use Rattle.grid.specs.Units.{cells}
 use Rattle.grid.specs.declared.Rect.{Rect}
 use Rattle.rows.specs.Phases.{sinceReference, slotOf}
 use Rattle.methods.specs.Chosen.{IsSlot, IsAsk}
-use Rattle.store.specs.Soundness.{IsStore}
-use Rattle.store.specs.Reading.{cellsIn, listedIn, usefulIn, withIds, ReadingOf, SmallReading, ReadTogether}
-use Rattle.store.specs.declared.Record.{Record}
-use Rattle.store.specs.declared.reading.Reading.{Reading}
+use Rattle.records.specs.Soundness.{IsStore}
+use Rattle.reading.specs.Reading.{cellsIn, listedIn, usefulIn, withIds, ReadingOf, SmallReading, ReadTogether}
+use Rattle.records.specs.declared.Record.{Record}
+use Rattle.reading.specs.declared.Reading.{Reading}
 use Rattle.ledger.specs.Machine.{summed}
 use Rattle.engine.specs.Index.{choiceOf, marksIn, listedOf, foundIn}
 use Rattle.engine.specs.declared.asking.Counts.{Counts}

@@ -13,8 +13,8 @@ use Rattle.grid.specs.declared.Rect.{Rect}
 use Rattle.grid.specs.declared.Report.{Report}
 use Rattle.rows.specs.Phases.{phaseOf, isLive}
 use Rattle.rows.specs.Table.{tableWords, withNewlyLiveEmpty}
-use Rattle.store.specs.Records.{nowOf, recordsOf, storeOf}
-use Rattle.store.specs.Soundness.{isSound, IsStore}
+use Rattle.records.specs.Records.{nowOf, recordsOf, storeOf}
+use Rattle.records.specs.Soundness.{isSound, IsStore}
 use Rattle.store.specs.Changes.{inserted, removed, placedIn, steppedRecords, replaced, withSpeeds}
 use Rattle.ledger.specs.declared.Answer.{Answer}
 use Rattle.ledger.specs.Answers.{numberOf, valueOf, countsOf}

@@ -15,12 +15,12 @@ use Rattle.rows.specs.Phases.{phaseOf, sinceReference, livePhases, slotOf}
 use Rattle.rows.specs.Table.{tableWords, withSpeed, withSlotEmpty, withNewlyLiveEmpty}
 use Rattle.methods.specs.Methods.{Choice, choice}
 use Rattle.methods.specs.Chosen.{rowsOfSlot, marksOf}
-use Rattle.store.specs.Records.{storeWords, nowOf, recordsOf, storeOf}
-use Rattle.store.specs.Order.{slotOfKey, numberOfKey, hasId}
-use Rattle.store.specs.Soundness.{isSound}
+use Rattle.records.specs.Records.{storeWords, nowOf, recordsOf, storeOf}
+use Rattle.records.specs.Order.{slotOfKey, numberOfKey, hasId}
+use Rattle.records.specs.Soundness.{isSound}
 use Rattle.store.specs.Changes.{inserted, removed, placedIn, replaced, steppedRecords, withSpeeds}
-use Rattle.store.specs.Reading.{listedIn, cellsIn, usefulIn, withIds, rising}
-use Rattle.store.specs.declared.Record.{Record}
+use Rattle.reading.specs.Reading.{listedIn, cellsIn, usefulIn, withIds, rising}
+use Rattle.records.specs.declared.Record.{Record}
 use Rattle.ledger.specs.Answers.{isAccepted}
 use Rattle.ledger.specs.Refusals.{Check, check, firstToFail, badTime, badStepTime, badAskTime, badReport, badId, badAsk}
 use Rattle.ledger.specs.Machine.{summed}

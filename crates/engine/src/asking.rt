@@ -9,14 +9,14 @@ ghost use Rattle.ints.specs.Whole.{up, between};
 ghost use Rattle.grid.specs.Reports.{isTime};
 ghost use Rattle.rows.specs.Phases.{sinceReference, slotOf};
 ghost use Rattle.methods.specs.Chosen.{ChosenBy};
-ghost use Rattle.store.specs.Records.{recordsOf};
+ghost use Rattle.records.specs.Records.{recordsOf};
 ghost use Rattle.ledger.specs.declared.Answer.the-variants.{Listed};
 ghost use Rattle.engine.specs.Index.{askOut, phasesNow};
 ghost use Rattle.engine.specs.Gives.{GivesList, CanAsk, CanAskIn, noIds};
 ghost use Rattle.engine.specs.Counted.{CanChoose, CanRead, ReadIn, SmallCounts, CountedTogether, CountedIn, CountedOver};
 use grid::Rect;
 use ledger::Answer;
-use store::reading::Reading;
+use reading::Reading;
 
 // What asking in a phase, or in several, gives back: what was read there, and the rounds of choosing. How many cells were read is only in the reading.
 pub struct Counts {
@@ -110,7 +110,7 @@ fn read_in(
     requires { ⌜ CanRead (now store) asked (now found) ⌝ }
     ensures { λ r. ⌜ ReadIn (now (marks .entry)) p q asked (recordsOf (now (store .entry))) (now (found .entry)) (now (found .exit)) r ⌝ }
 {
-    store::reading::read_cells(store, rows::slot_of(p), marks, q, wide(asked), found)
+    reading::read_cells(store, rows::slot_of(p), marks, q, wide(asked), found)
 }
 
 // An ask in one live phase: cells chosen by the rows of its slot, and read.
@@ -144,7 +144,7 @@ fn ask_in_all(
     requires { ⌜ CanAsk (now store) (now table) method asked q × (length (now found) ≡ 65536) ⌝ }
     ensures { λ r. ⌜ CountedOver (now (store .entry)) (now (table .entry)) (up method) asked q (phasesNow (now (store .entry)) (now (table .entry)) (up method) asked q) (now (found .entry)) (now (found .exit)) r ⌝ }
 {
-    let c = rows::phase_of(store::now_of(store));
+    let c = rows::phase_of(records::now_of(store));
     let newest = ask_in(store, table, c, method, asked, q, found);
     if c < 1 {
         return newest;
@@ -174,7 +174,7 @@ fn ask_with(
     if list.len() < needed {
         return Answer::ListTooShort(needed);
     }
-    store::reading::rising(found, list);
+    reading::rising(found, list);
     counts.answer()
 }
 

@@ -9,8 +9,8 @@ ghost use lib.Signed.{leZ};
 ghost use lib.ListN.{length};
 ghost use Rattle.ints.specs.Whole.{between};
 ghost use Rattle.grid.specs.Reports.{isTime, isId, isPosition};
-ghost use Rattle.store.specs.Records.{recordsOf, nowOf};
-ghost use Rattle.store.specs.Soundness.{IsStore};
+ghost use Rattle.records.specs.Records.{recordsOf, nowOf};
+ghost use Rattle.records.specs.Soundness.{IsStore};
 ghost use Rattle.store.specs.Changes.{removed};
 ghost use Rattle.ledger.specs.Answers.{isAccepted};
 ghost use Rattle.ledger.specs.Refusals.{check, firstToFail, badStepTime, badAskTime, badAsk, isRectangle};
@@ -56,7 +56,7 @@ pub fn is_accepted(a: Answer) -> bool
 pub fn wrong_length(store: &[i32], table: &[i16]) -> bool
     ensures { λ r. ⌜ r ≡ wrongLength (now (store .entry)) (now (table .entry)) ⌝ }
 {
-    if store.len() != store::STORE_WORDS {
+    if store.len() != records::STORE_WORDS {
         return true;
     }
     table.len() != rows::TABLE_WORDS
@@ -164,7 +164,7 @@ pub fn lent_answer(store: &[i32], table: &[i16]) -> Answer
     if wrong_length(store, table) {
         return Answer::WrongLength;
     }
-    if !store::soundness::is_sound(store, table) {
+    if !records::soundness::is_sound(store, table) {
         return Answer::Unsound;
     }
     Answer::Accepted(0)
@@ -189,7 +189,7 @@ pub fn clock_answer(store: &[i32], t: i32) -> Answer
     if bad_step_time(store, t) {
         return Answer::BadTime;
     }
-    Answer::Accepted(store::held_of(store))
+    Answer::Accepted(records::held_of(store))
 }
 
 pub fn add_answer(store: &[i32], r: Report) -> Answer
@@ -199,14 +199,14 @@ pub fn add_answer(store: &[i32], r: Report) -> Answer
     if bad_step_time(store, r.t) {
         return Answer::BadTime;
     }
-    if !store::soundness::in_range(r) {
+    if !records::soundness::in_range(r) {
         return Answer::BadNumber;
     }
     if store::changes::has_id(store, r.id) {
         return Answer::AlreadyHeld;
     }
-    let held = store::held_of(store);
-    if store::CAPACITY <= held {
+    let held = records::held_of(store);
+    if records::CAPACITY <= held {
         return Answer::Full;
     }
     Answer::Accepted(held + 1)
@@ -219,13 +219,13 @@ pub fn report_answer(store: &[i32], r: Report) -> Answer
     if bad_step_time(store, r.t) {
         return Answer::BadTime;
     }
-    if !store::soundness::in_range(r) {
+    if !records::soundness::in_range(r) {
         return Answer::BadNumber;
     }
     if !store::changes::has_id(store, r.id) {
         return Answer::NotHeld;
     }
-    Answer::Accepted(store::held_of(store))
+    Answer::Accepted(records::held_of(store))
 }
 
 pub fn drop_answer(store: &[i32], id: i32, t: i32) -> Answer
@@ -241,7 +241,7 @@ pub fn drop_answer(store: &[i32], id: i32, t: i32) -> Answer
     if !store::changes::has_id(store, id) {
         return Answer::NotHeld;
     }
-    Answer::Accepted(store::held_of(store) - 1)
+    Answer::Accepted(records::held_of(store) - 1)
 }
 
 // The checks of an ask but the last, which wants the ids found.

@@ -2,7 +2,7 @@
 // each answers and leaves is what the public call of its name does.
 ghost use mathlib.Core.Path.{_≡_};
 ghost use mathlib.Core.Bool.{true};
-ghost use Rattle.store.specs.Soundness.{isSound};
+ghost use Rattle.records.specs.Soundness.{isSound};
 ghost use Rattle.engine.specs.Index.{clockOut, addOut, reportOut, dropOut, askOut};
 ghost use Rattle.engine.specs.Gives.{Gives, GivesList};
 use crate::asking::ask_sound;

@@ -1,7 +1,7 @@
 // The work of the calls that change the index, over buffers known to be sound: the clock step, a report placed, a float taken out.
 ghost use mathlib.Core.Path.{_≡_};
 ghost use Rattle.rows.specs.Phases.{phaseOf};
-ghost use Rattle.store.specs.Soundness.{IsStore};
+ghost use Rattle.records.specs.Soundness.{IsStore};
 ghost use Rattle.engine.specs.Gives.{CanMove, Moved, CanStep, Stepped, CanPlace, Placed, TakenOut};
 use grid::Report;
 
@@ -32,7 +32,7 @@ pub fn step(store: &mut [i32], table: &mut [i16], t: i32)
     requires { ⌜ CanStep (now store) (now table) t ⌝ }
     ensures { λ u. ⌜ Stepped (now (store .entry)) (now (table .entry)) t (now (store .exit)) (now (table .exit)) ⌝ }
 {
-    let c = rows::phase_of(store::now_of(store));
+    let c = rows::phase_of(records::now_of(store));
     let later = phase_at(t);
     if later <= c {
         store::changes::set_now(store, t);

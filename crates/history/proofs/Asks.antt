@@ -24,13 +24,13 @@ use Rattle.rows.proofs.PhaseLaws.{listed-live}
 use Rattle.methods.specs.Methods.{Choice, choice}
 use Rattle.methods.specs.Chosen.{rowsOfSlot}
 use Rattle.methods.proofs.ChoiceLaws.{choice-same}
-use Rattle.store.specs.Records.{nowOf}
-use Rattle.store.specs.Order.{precedes}
+use Rattle.records.specs.Records.{nowOf}
+use Rattle.records.specs.Order.{precedes}
 use Rattle.store.specs.Changes.{inserted}
-use Rattle.store.specs.declared.Record.{Record}
-use Rattle.store.proofs.SoundLawsKeys.{live-phase-of-key}
-use Rattle.store.proofs.SoundLaws.{Sound, sound-parts}
-use Rattle.store.proofs.ListedLaws.{idOf}
+use Rattle.records.specs.declared.Record.{Record}
+use Rattle.records.proofs.SoundLawsKeys.{live-phase-of-key}
+use Rattle.records.proofs.SoundLaws.{Sound, sound-parts}
+use Rattle.reading.proofs.ListedLaws.{idOf}
 use Rattle.ledger.specs.Answers.{valueOf, isAccepted}
 use Rattle.ledger.specs.Refusals.{unless, firstToFail, badAskTime, badAsk}
 use Rattle.ledger.specs.Machine.{Ledger, Held, rowsIn, choiceIn, listedHeld, isUseful, usefulCells, putInOrder, idsInOrder, summed, idsListed, cellsRead, usefulRead, roundsTaken}

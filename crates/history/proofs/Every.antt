@@ -19,7 +19,7 @@ use Rattle.rows.specs.Phases.{slotOf, slots}
 use Rattle.rows.specs.Table.{tableWords, rowAt, withSlotEmpty}
 use Rattle.rows.proofs.PhaseLaws.{slot-on}
 use Rattle.rows.proofs.TableLaws.{length-slot-empty, row-emptied, row-kept}
-use Rattle.store.specs.Records.{storeWords}
+use Rattle.records.specs.Records.{storeWords}
 use Rattle.ledger.specs.Answers.{isAccepted}
 use Rattle.ledger.specs.Refusals.{check, firstToFail, badTime}
 use Rattle.ledger.specs.Machine.{Ledger, opened, rowsIn, speedsPlaced}

@@ -16,9 +16,9 @@ use Rattle.grid.specs.declared.Rect.{Rect}
 use Rattle.rows.specs.Phases.{phaseOf, sinceReference, livePhases, slotOf}
 use Rattle.methods.specs.Methods.{choice}
 use Rattle.methods.specs.Chosen.{rowsOfSlot}
-use Rattle.store.specs.Records.{nowOf, recordsOf}
-use Rattle.store.specs.Soundness.{isSound}
-use Rattle.store.proofs.SoundLaws.{sound-parts}
+use Rattle.records.specs.Records.{nowOf, recordsOf}
+use Rattle.records.specs.Soundness.{isSound}
+use Rattle.records.proofs.SoundLaws.{sound-parts}
 use Rattle.ledger.specs.Answers.{Counts, valueOf, countsOf, isAccepted}
 use Rattle.ledger.specs.Refusals.{unless, firstToFail, inNumberOrder, badAskTime, badAsk}
 use Rattle.ledger.specs.declared.Answer.{Answer}

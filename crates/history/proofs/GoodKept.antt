@@ -22,7 +22,7 @@ use Rattle.grid.specs.declared.Report.{Report}
 use Rattle.grid.proofs.Places.{cell-on}
 use Rattle.rows.specs.Phases.{phaseOf, referenceTime, isLive}
 use Rattle.rows.proofs.PhaseLaws.{phase-is, range-live}
-use Rattle.store.proofs.SoundLawsRanges.{ranges}
+use Rattle.records.proofs.SoundLawsRanges.{ranges}
 use Rattle.ledger.specs.Machine.{Ledger, Held, Placement, placement, opened, isHeld, without, steppedHeld, newPlacements, livePlacements, stepped, withReport, withoutId}
 use Rattle.ledger.proofs.MachineLaws.{steppedOne, same-report, stepped-length, stepped-held, stepped-from, without-member, without-few, without-held, live-from, live-stays, new-from, new-placed}
 use Rattle.history.proofs.Relation.{heldOnce, GoodHeld, GoodPlacement, Good}

@@ -13,12 +13,12 @@ use Rattle.ints.specs.Whole.{eqZ}
 use Rattle.ints.proofs.Truth.{and-left, and-right}
 use Rattle.ints.proofs.Same.{same-is}
 use Rattle.rows.specs.Phases.{phaseOf, isLive}
-use Rattle.store.specs.Order.{hasId}
-use Rattle.store.specs.Soundness.{isSoundRecord, allSound, idsDistinct}
+use Rattle.records.specs.Order.{hasId}
+use Rattle.records.specs.Soundness.{isSoundRecord, allSound, idsDistinct}
 use Rattle.store.specs.Changes.{inserted, removed, placedIn, kept, replaced, insertedAll, livesOn, steppedRecords}
-use Rattle.store.specs.declared.Record.{Record}
-use Rattle.store.proofs.SoundLawsKeys.{live-phase-of-key, placed-right}
-use Rattle.store.proofs.SoundLaws.{record-sound}
+use Rattle.records.specs.declared.Record.{Record}
+use Rattle.records.proofs.SoundLawsKeys.{live-phase-of-key, placed-right}
+use Rattle.records.proofs.SoundLaws.{record-sound}
 use Rattle.store.proofs.OrderLaws.{Ascending, inserted-from, inserted-length, has-inserted, ascending-inserted, inserted-passes, distinct-inserted, removed-same, removed-other, stepped-kept, stepped-replaced}
 use Rattle.ledger.specs.Machine.{Held, Placement, isHeld, without, steppedHeld}
 use Rattle.history.proofs.Relation.{recordOf, recordsOfHeld, heldOnce, GoodHeld}

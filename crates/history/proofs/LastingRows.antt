@@ -22,12 +22,12 @@ use Rattle.rows.specs.declared.Row.{Row}
 use Rattle.rows.proofs.PhaseLaws.{live-range, range-live, slot-on}
 use Rattle.rows.proofs.RowLaws.{Within, within-refl, within-trans, within-joined-left, holds-within, bounds-grow}
 use Rattle.rows.proofs.TableLaws.{row-written, row-other, length-with-row, length-newly-live-empty, earlier-live-kept}
-use Rattle.store.specs.Records.{nowOf, recordsOf, storeOf}
-use Rattle.store.specs.Order.{slotOfKey, numberOfKey}
+use Rattle.records.specs.Records.{nowOf, recordsOf, storeOf}
+use Rattle.records.specs.Order.{slotOfKey, numberOfKey}
 use Rattle.store.specs.Changes.{placedIn, replaced, withSpeeds}
-use Rattle.store.specs.declared.Record.{Record}
-use Rattle.store.proofs.RecordLaws.{now-of-store}
-use Rattle.store.proofs.SoundLawsRanges.{number-of-key-below}
+use Rattle.records.specs.declared.Record.{Record}
+use Rattle.records.proofs.RecordLaws.{now-of-store}
+use Rattle.records.proofs.SoundLawsRanges.{number-of-key-below}
 use Rattle.store.proofs.SpeedLaws.{with-speeds-length}
 use Rattle.ledger.specs.Answers.{isAccepted}
 use Rattle.ledger.specs.Refusals.{Check, check, firstToFail, badStepTime}

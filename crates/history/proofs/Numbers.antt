@@ -8,7 +8,7 @@ use mathlib.Core.Logic.{⊎-elim}
 use Prim.Native.Nat.{ℕ, _+_}
 use native.Mathlib.Omega.{arith}
 use Rattle.grid.specs.Sightings.{Sighting}
-use Rattle.store.specs.Soundness.{isSoundStore, isSound}
+use Rattle.records.specs.Soundness.{isSoundStore, isSound}
 use Rattle.ledger.specs.Answers.{numberOf}
 use Rattle.ledger.specs.Refusals.{Check, unless, firstToFail}
 use Rattle.ledger.specs.Machine.{Ledger, opened}

@@ -29,11 +29,11 @@ use Rattle.rows.proofs.RowLaws.{AllValid, joined-same, speed-ranged, ranged-val
 use Rattle.rows.proofs.PhaseLaws.{live-range, range-live, same-slot, slot-on}
 use Rattle.rows.proofs.TableLaws.{length-newly-live-empty, newly-live-emptied, earlier-live-kept}
 use Rattle.rows.proofs.SlotLaws.{phase-in-slot, slot-cases, other-slot-kept}
-use Rattle.store.specs.Order.{keyIn, slotOfKey, numberOfKey}
+use Rattle.records.specs.Order.{keyIn, slotOfKey, numberOfKey}
 use Rattle.store.specs.Changes.{placedIn, livesOn, replaced, withSpeeds}
-use Rattle.store.specs.declared.Record.{Record}
-use Rattle.store.proofs.SoundLawsKeys.{slot-of-key-in, number-of-key-in, live-phase-of-key}
-use Rattle.store.proofs.SoundLawsRanges.{ranges, speed-size}
+use Rattle.records.specs.declared.Record.{Record}
+use Rattle.records.proofs.SoundLawsKeys.{slot-of-key-in, number-of-key-in, live-phase-of-key}
+use Rattle.records.proofs.SoundLawsRanges.{ranges, speed-size}
 use Rattle.store.proofs.OrderLaws.{replaced-from}
 use Rattle.store.proofs.SpeedLaws.{liesAt, speedsAt, Placeable, newBounds, withOne, bounds-inserted, with-speeds-length, row-with-speeds, none-elsewhere}
 use Rattle.ledger.specs.Machine.{Ledger, Held, Placement, placeIn, placement, newPlacements, livePlacements, stepped, withReport, speedsPlaced, rowsIn}

@@ -16,9 +16,9 @@ use Rattle.grid.specs.Reports.{isTime, isSpeed, inRange}
 use Rattle.rows.specs.Row.{emptyRow}
 use Rattle.rows.specs.Phases.{phaseOf, isLive, slotOf, slots}
 use Rattle.rows.specs.Table.{tableWords, rowAt}
-use Rattle.store.specs.Records.{storeOf}
+use Rattle.records.specs.Records.{storeOf}
 use Rattle.store.specs.Changes.{inserted, placedIn}
-use Rattle.store.specs.declared.Record.{Record}
+use Rattle.records.specs.declared.Record.{Record}
 use Rattle.ledger.specs.Machine.{Ledger, Held, Placement, placement, isHeld, rowsIn}
 use Rattle.history.specs.Index.{Words}
 

@@ -21,14 +21,14 @@ use Rattle.rows.specs.Table.{tableWords, rowAt}
 use Rattle.rows.specs.declared.Row.{Row}
 use Rattle.rows.proofs.RowLaws.{holds-one, holds-within, bounds-hold}
 use Rattle.rows.proofs.TableLaws.{valid-of-rows}
-use Rattle.store.specs.Records.{storeWords, nowOf, recordsOf, storeOf}
-use Rattle.store.specs.Order.{keyIn, slotOfKey, numberOfKey}
-use Rattle.store.specs.Soundness.{speedsInRows, isSound}
-use Rattle.store.specs.declared.Record.{Record}
-use Rattle.store.proofs.RecordLaws.{now-of-store, records-of-store, store-length}
-use Rattle.store.proofs.SoundLawsKeys.{slot-of-key-in, number-of-key-in}
+use Rattle.records.specs.Records.{storeWords, nowOf, recordsOf, storeOf}
+use Rattle.records.specs.Order.{keyIn, slotOfKey, numberOfKey}
+use Rattle.records.specs.Soundness.{speedsInRows, isSound}
+use Rattle.records.specs.declared.Record.{Record}
+use Rattle.records.proofs.RecordLaws.{now-of-store, records-of-store, store-length}
+use Rattle.records.proofs.SoundLawsKeys.{slot-of-key-in, number-of-key-in}
 use Rattle.store.proofs.OrderLaws.{ascending-sorted, inserted-passes}
-use Rattle.store.proofs.SoundLaws.{parts-sound}
+use Rattle.records.proofs.SoundLaws.{parts-sound}
 use Rattle.ledger.specs.Machine.{Ledger, Held, placeIn, speedsPlaced, rowsIn}
 use Rattle.ledger.proofs.MachineLaws.{speed-placed}
 use Rattle.engine.specs.Index.{wrongLength, unsound}

@@ -28,13 +28,13 @@ use Rattle.methods.specs.Chosen.{rowsOfSlot}
 use Rattle.methods.proofs.Claims.{choice-once}
 use Rattle.methods.proofs.ChoiceLaws.{choice-on}
 use Rattle.methods.proofs.SetLaws.{cell-of-mark, cells-counted}
-use Rattle.store.specs.Records.{nowOf, recordsOf}
-use Rattle.store.specs.Order.{keyIn, slotOfKey, numberOfKey}
-use Rattle.store.specs.Reading.{inSet, isRead, hasKey}
-use Rattle.store.specs.declared.Record.{Record}
-use Rattle.store.proofs.SoundLawsKeys.{number-of-key-in}
-use Rattle.store.proofs.SoundLaws.{Sound}
-use Rattle.store.proofs.ListedLaws.{listed-is, key-among}
+use Rattle.records.specs.Records.{nowOf, recordsOf}
+use Rattle.records.specs.Order.{keyIn, slotOfKey, numberOfKey}
+use Rattle.reading.specs.Reading.{inSet, isRead, hasKey}
+use Rattle.records.specs.declared.Record.{Record}
+use Rattle.records.proofs.SoundLawsKeys.{number-of-key-in}
+use Rattle.records.proofs.SoundLaws.{Sound}
+use Rattle.reading.proofs.ListedLaws.{listed-is, key-among}
 use Rattle.ledger.specs.Answers.{Counts}
 use Rattle.ledger.specs.Machine.{Held, placeIn, listedHeld, isUseful, usefulCells, summed}
 use Rattle.ledger.proofs.SumLaws.{summed-same}

@@ -20,10 +20,10 @@ use Rattle.grid.specs.Reports.{isTime, inRange}
 use Rattle.grid.specs.declared.Report.{Report}
 use Rattle.rows.specs.Phases.{phaseOf}
 use Rattle.rows.specs.Table.{withNewlyLiveEmpty}
-use Rattle.store.specs.Records.{nowOf, recordsOf, storeOf}
-use Rattle.store.specs.Order.{hasId}
+use Rattle.records.specs.Records.{nowOf, recordsOf, storeOf}
+use Rattle.records.specs.Order.{hasId}
 use Rattle.store.specs.Changes.{inserted, removed, placedIn, replaced, steppedRecords, withSpeeds}
-use Rattle.store.specs.declared.Record.{Record}
+use Rattle.records.specs.declared.Record.{Record}
 use Rattle.ledger.specs.Answers.{isAccepted}
 use Rattle.ledger.specs.Refusals.{Check, check, unless, firstToFail, badStepTime, badReport, badId}
 use Rattle.ledger.specs.Machine.{Ledger, Held, isHeld, without, steppedHeld, stepped, withReport, withoutId, added, reported, dropped, rowsIn}

@@ -16,7 +16,7 @@ use Rattle.rows.specs.Phases.{phaseOf, sinceReference, isLive, livePhases, slot
 use Rattle.rows.specs.declared.Row.{Row}
 use Rattle.methods.specs.Chosen.{rowsOfSlot}
 use Rattle.methods.specs.Claims.{Nested}
-use Rattle.store.specs.Records.{nowOf}
+use Rattle.records.specs.Records.{nowOf}
 use Rattle.ledger.specs.Answers.{isAccepted, numberOf, countsOf}
 use Rattle.ledger.specs.Machine.{Ledger, opened, rowsIn, choiceIn}
 use Rattle.ledger.specs.Calls as L

@@ -14,10 +14,10 @@ use Rattle.grid.specs.declared.Rect.{Rect}
 use Rattle.grid.specs.declared.Report.{Report}
 use Rattle.rows.specs.Phases.{phaseOf, livePhases}
 use Rattle.methods.specs.Methods.{Rows, choice}
-use Rattle.store.specs.Records.{nowOf, recordsOf}
-use Rattle.store.specs.Order.{phaseOfKey}
-use Rattle.store.specs.Soundness.{isSound}
-use Rattle.store.specs.declared.Record.{Record}
+use Rattle.records.specs.Records.{nowOf, recordsOf}
+use Rattle.records.specs.Order.{phaseOfKey}
+use Rattle.records.specs.Soundness.{isSound}
+use Rattle.records.specs.declared.Record.{Record}
 use Rattle.ledger.specs.Answers.{valueOf, noCounts, countsOf, isAccepted}
 use Rattle.ledger.specs.Refusals.{inNumberOrder, badAskTime, badAsk}
 use Rattle.ledger.specs.Machine.{Held, listedHeld, usefulCells, summed}

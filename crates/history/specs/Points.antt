@@ -5,7 +5,7 @@ use mathlib.Core.Path.{_≡_}
 use mathlib.Core.Bool.{true}
 use mathlib.Core.List.{List}
 use lib.IntN.{ℤ}
-use Rattle.store.specs.Soundness.{isSound}
+use Rattle.records.specs.Soundness.{isSound}
 use Rattle.ledger.specs.Answers.{isAccepted}
 use Rattle.ledger.specs.Machine.{Ledger, opened}
 use Rattle.ledger.specs.Calls as L

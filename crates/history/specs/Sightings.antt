@@ -5,7 +5,7 @@ use lib.IntN.{ℤ, pos, negsuc}
 use lib.ListN.{replicate}
 use Rattle.grid.specs.Sightings.{Sighting}
 use Rattle.rows.specs.Table.{tableWords}
-use Rattle.store.specs.Records.{storeWords}
+use Rattle.records.specs.Records.{storeWords}
 use Rattle.ledger.specs.Answers.{numberOf}
 use Rattle.engine.specs.Index.{openOut, clockOut}
 

@@ -18,9 +18,9 @@ use Rattle.ints.proofs.Parts.{true-false}
 use Rattle.grid.specs.declared.Rect.{Rect}
 use Rattle.grid.specs.declared.Report.{Report}
 use Rattle.rows.specs.Table.{tableWords, withSlotEmpty}
-use Rattle.store.specs.Records.{storeWords, nowOf, storeOf}
-use Rattle.store.specs.Soundness.{isSound}
-use Rattle.store.proofs.SoundLaws as Sound
+use Rattle.records.specs.Records.{storeWords, nowOf, storeOf}
+use Rattle.records.specs.Soundness.{isSound}
+use Rattle.records.proofs.SoundLaws as Sound
 use Rattle.ledger.specs.Answers.{isAccepted, numberOf, valueOf, countsOf}
 use Rattle.ledger.specs.Refusals.{Check, check, unless, firstToFail, badTime, badAskTime, badAsk}
 use Rattle.ledger.specs.Machine.{Ledger, opened}

@@ -11,7 +11,7 @@ use lib.Seq.{take-all, take-add}
 use borrow.Author.Tests.{eq-eqb}
 use Rattle.ints.proofs.Parts.{true-false}
 use Rattle.rows.specs.Table.{tableWords}
-use Rattle.store.specs.Records.{storeWords}
+use Rattle.records.specs.Records.{storeWords}
 use Rattle.ledger.specs.Answers.{isAccepted}
 use Rattle.ledger.specs.Refusals.{firstToFail}
 use Rattle.ledger.specs.Machine.{Ledger, opened}

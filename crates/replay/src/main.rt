@@ -6,7 +6,7 @@ ghost use mathlib.Core.List.{[]};
 ghost use lib.IntN.{pos};
 ghost use lib.ListN.{length};
 ghost use Rattle.rows.specs.Table.{tableWords};
-ghost use Rattle.store.specs.Records.{storeWords};
+ghost use Rattle.records.specs.Records.{storeWords};
 ghost use Rattle.history.specs.Points.{Point};
 ghost use Rattle.ledger.specs.Machine.{opened};
 ghost use Rattle.replay.specs.Replay.{listLength};

@@ -5,13 +5,12 @@ use mathlib.Core.Path.{_≡_, refl, sym, ap, _∙_}
 use mathlib.Core.Bool.{Bool, true, false, cond, _||_}
 use mathlib.Core.List.{List, [], _∷_, _++_, append-assoc, append-nil}
 use Prim.Native.Nat.{ℕ, suc, _+_, _-_, _*_, _≤_, _<_, _^_}
-use native.Mathlib.Nat.{add-zero}
 use native.Mathlib.Omega.{arith}
 use lib.IntN.{ℤ, pos}
 use lib.Signed.{mag}
 use lib.Dec.{ltb}
 use lib.ListN.{length, getD, set, take, drop, replicate, length-append, length-take, length-drop, take-append-drop, replicate-append-replicate, drop-of-length-le}
-use lib.Seq.{getD-drop, drop-drop, drop-cons, sets-eq, take-at, drop-at, length-take-le, take-all}
+use lib.Seq.{drop-drop, drop-cons, sets-eq, take-at, drop-at, length-take-le, take-all}
 use native.Mathlib.Numerals.{add-one, towards-suc}
 use borrow.Author.Tests.{lt-ltb, le-ltb, ltb-true, ltb-false}
 use mir.Syntax.{w32}
@@ -20,18 +19,17 @@ use Rattle.ints.specs.Whole.{eqZ}
 use Rattle.ints.proofs.Machine.{back, held}
 use Rattle.ints.proofs.Lists.{movedUp, movedDown, up-more, up-end, down-more, down-end}
 use Rattle.grid.specs.Units.{capacity}
-use Rattle.store.specs.Records.{recordWords, storeWords, recordFrom, nowOf, heldOf, readRecords, recordsOf, wordsOf, wordsOfAll, header, storeOf}
-use Rattle.store.specs.Order.{precedes, hasId}
-use Rattle.store.specs.Soundness.{IsStore}
+use Rattle.records.specs.Records.{recordWords, recordFrom, nowOf, heldOf, readRecords, recordsOf, wordsOf, wordsOfAll, header, storeOf}
+use Rattle.records.specs.Order.{precedes, hasId}
+use Rattle.records.specs.Soundness.{IsStore}
 use Rattle.store.specs.Changes.{inserted, removed}
-use Rattle.store.specs.Walks.{HasWords, firstOf, placeOf, indexOf, hasThat}
-use Rattle.store.proofs.RecordLaws.{words-length, store-length, held-records}
-use Rattle.store.specs.declared.Record.{Record}
+use Rattle.records.specs.Places.{HasWords, firstOf}
+use Rattle.store.specs.Walks.{placeOf, indexOf, hasThat}
+use Rattle.records.proofs.RecordLaws.{words-length, held-records}
+use Rattle.records.specs.declared.Record.{Record}
+use Rattle.records.proofs.PlaceLaws.{record-at, first-within, within}
 
 -- ---- a walk over the records, one by one
-
-pub record-at : (k : ℕ) (s : List ℤ) → recordFrom (drop k s) 0 ≡ recordFrom s k
-record-at k s = simp (getD-drop, add-zero)
 
 -- the records that are left at record i
 pub left-at : (n i : ℕ) (s : List ℤ) → i < n → readRecords (n - i) (drop (recordWords * i + recordWords) s) ≡ recordFrom s (recordWords * i + recordWords) ∷ readRecords (n - (i + 1)) (drop (recordWords * (i + 1) + recordWords) s)
@@ -108,15 +106,6 @@ write-words s k r h ka ida ta xa ya vxa vya =
     (written s k (r .key) (r .report .id) (r .report .t) (r .report .x) (r .report .y) (r .report .vx) (r .report .vy) h)
 
 -- ---- the place of a record and the record of an id
-
-pub first-within : (f : Record → Bool) (rs : List Record) → firstOf f rs ≤ length rs
-unfolding firstOf
-first-within f [] = omega arith
-first-within f (a ∷ rs) = go (f a) (first-within f rs)
-  where
-    go : (b : Bool) → firstOf f rs ≤ length rs → cond b 0 (suc (firstOf f rs)) ≤ suc (length rs)
-    go true h = omega arith
-    go false h = omega arith
 
 ltb-suc : (a b : ℕ) → ltb (suc a) (suc b) ≡ ltb a b
 ltb-suc a b = go (ltb a b) refl
@@ -237,31 +226,6 @@ closed-up l m v r h e f g =
     rw (e, length-append, length-drop recordWords l, length-drop (length l - recordWords) l) (omega arith) in
     let tm : take (length l - recordWords) m ≡ x = ap (take (length l - recordWords)) e ∙ take-at x y (length l - recordWords) lx in
     g ∙ (λ i. tm i ++ (f i ++ drop-of-length-le m lm i))
-
--- ---- a store that is as the functions ask
-
-pub record Room (s : List ℤ) : Type 0 where
-  pub long : length s ≡ storeWords
-  pub few : heldOf s ≤ capacity
-  pub count : length (recordsOf s) ≡ heldOf s
-
-pub has-words : (s : List ℤ) → IsStore s → HasWords s
-has-words s q = record { words = q .words; few = q .few }
-
-pub words-room : (s : List ℤ) → HasWords s → Room s
-words-room s q =
-    let n = held-records s in
-    record {
-      long = ap length (q .words) ∙ store-length (nowOf s) (recordsOf s) (q .few);
-      few = omega arith;
-      count = n;
-    }
-
-pub store-room : (s : List ℤ) → IsStore s → Room s
-store-room s q = words-room s (has-words s q)
-
-pub within : (f : Record → Bool) (s : List ℤ) (p : ℕ) → p ≡ firstOf f (recordsOf s) → p ≤ heldOf s
-within f s p e = omega (arith, first-within f (recordsOf s), held-records s)
 
 -- ---- a record put in, as a change of the words
 more-zeros : (n : ℕ) → n < capacity → zeros (recordWords * (capacity - n)) ≡ zeros recordWords ++ zeros (recordWords * (capacity - suc n))

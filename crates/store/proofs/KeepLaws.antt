@@ -3,20 +3,20 @@
 use mathlib.Core.Path.{_≡_, refl, sym, ap, _∙_}
 use mathlib.Core.Bool.{Bool, true, false, cond, not, _&&_, _||_}
 use mathlib.Core.Logic.{_⊎_, inl, inr, ⊎-elim}
-use mathlib.Core.List.{List, [], _∷_, _++_}
-use Prim.Native.Nat.{ℕ, suc, _+_, _-_, _≤_, _<_}
+use mathlib.Core.List.{List, [], _∷_}
+use Prim.Native.Nat.{ℕ, suc, _+_, _-_}
 use native.Mathlib.Omega.{arith}
 use lib.IntN.{ℤ}
-use lib.Signed.{leZ, ltZ}
+use lib.Signed.{ltZ}
 use lib.ListN.{length}
-use Rattle.ints.specs.Whole.{up, down, eqZ}
-use Rattle.ints.proofs.Parts.{true-false, signed, equal}
-use Rattle.ints.proofs.Truth.{same-truth, and-true, and-left, and-right}
+use Rattle.ints.specs.Whole.{eqZ}
+use Rattle.ints.proofs.Parts.{true-false, signed}
+use Rattle.ints.proofs.Truth.{and-true, and-left, and-right}
 use Rattle.ints.proofs.Same.{same-is, is-same, same-comm}
-use Rattle.store.specs.Order.{precedes, precedesFirst, isSorted, hasId}
-use Rattle.store.specs.Soundness.{isRanged, allRanged, idsDistinct}
+use Rattle.records.specs.Order.{precedes, precedesFirst, isSorted, hasId}
+use Rattle.records.specs.Soundness.{isRanged, allRanged, idsDistinct}
 use Rattle.store.specs.Changes.{inserted, insertedAll, removed, placedIn, livesOn, kept, replaced, steppedRecords}
-use Rattle.store.specs.declared.Record.{Record}
+use Rattle.records.specs.declared.Record.{Record}
 use Rattle.store.proofs.StepLaws.{inserted-length, placed-ranged}
 
 -- ---- the order of records

@@ -1,15 +1,6 @@
-pub mod RecordLaws
-pub mod SoundLawsRanges
-pub mod SoundLawsKeys
-pub mod SoundLawsTurns
-pub mod SoundLawsMarks
-pub mod SoundLaws
 pub mod ChangeLaws
-pub mod ReadingLaws
 pub mod OrderLaws
 pub mod MergeLaws
-pub mod RisingLaws
 pub mod StepLaws
 pub mod KeepLaws
-pub mod ListedLaws
 pub mod SpeedLaws

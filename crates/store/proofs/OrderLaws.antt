@@ -15,10 +15,10 @@ use Rattle.ints.specs.Whole.{eqZ}
 use Rattle.ints.proofs.Parts.{signed, true-false}
 use Rattle.ints.proofs.Truth.{and-true, and-left, and-right}
 use Rattle.ints.proofs.Same.{same-not, same-comm}
-use Rattle.store.specs.Order.{precedes, isSorted, hasId}
-use Rattle.store.specs.Soundness.{idsDistinct}
+use Rattle.records.specs.Order.{precedes, isSorted, hasId}
+use Rattle.records.specs.Soundness.{idsDistinct}
 use Rattle.store.specs.Changes.{inserted, insertedAll, removed, placedIn, livesOn, kept, replaced, steppedRecords}
-use Rattle.store.specs.declared.Record.{Record}
+use Rattle.records.specs.declared.Record.{Record}
 
 -- ---- the order of two records
 

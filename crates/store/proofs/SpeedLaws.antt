@@ -19,10 +19,10 @@ use Rattle.rows.specs.Table.{tableWords, rowAt, withSpeed}
 use Rattle.rows.specs.declared.Row.{Row}
 use Rattle.rows.proofs.RowLaws.{joined-comm, joined-assoc, joined-empty-right, widened-valid}
 use Rattle.rows.proofs.TableLaws.{row-written, row-other, length-with-row}
-use Rattle.store.specs.Order.{slotOfKey, numberOfKey, precedes}
+use Rattle.records.specs.Order.{slotOfKey, numberOfKey, precedes}
 use Rattle.store.specs.Changes.{inserted, placedIn, livesOn, replaced, withSpeeds}
-use Rattle.store.specs.declared.Record.{Record}
-use Rattle.store.proofs.SoundLawsKeys.{slot-of-key-in}
+use Rattle.records.specs.declared.Record.{Record}
+use Rattle.records.proofs.SoundLawsKeys.{slot-of-key-in}
 
 abbrev speedOf : Record → Row
 speedOf r = rowOfSpeed (r .report .vx) (r .report .vy)

@@ -11,17 +11,19 @@ use lib.Seq.{drop-drop, take-at, drop-at, take-add, take-all, length-take-le}
 use Rattle.ints.proofs.Truth.{and-true, and-left, and-right}
 use Rattle.grid.specs.Units.{capacity}
 use Rattle.rows.specs.Table.{tableWords, withRow, withSpeed}
-use Rattle.store.specs.Records.{recordWords, storeWords, recordFrom, nowOf, heldOf, readRecords, recordsOf, wordsOf, wordsOfAll, header, storeOf}
-use Rattle.store.specs.Order.{slotOfKey, numberOfKey, precedes}
-use Rattle.store.specs.Soundness.{isRanged, allRanged, IsStore}
+use Rattle.records.specs.Records.{recordWords, storeWords, recordFrom, nowOf, heldOf, readRecords, recordsOf, wordsOf, wordsOfAll, header, storeOf}
+use Rattle.records.specs.Order.{slotOfKey, numberOfKey, precedes}
+use Rattle.records.specs.Soundness.{isRanged, allRanged, IsStore}
 use Rattle.store.specs.Changes.{inserted, insertedAll, placedIn, livesOn, kept, replaced, steppedRecords, withSpeeds}
-use Rattle.store.specs.Walks.{HasWords, KeptFirst, Taken, PlaceAsked}
-use Rattle.store.specs.declared.Record.{Record}
-use Rattle.store.proofs.RecordLaws.{words-length, read-back, now-of-store, records-of-store, read-length, held-records, written-read}
-use Rattle.store.proofs.SoundLawsRanges.{ranged-parts, parts-ranged}
-use Rattle.store.proofs.SoundLawsKeys.{key-in-below}
-use Rattle.store.proofs.ChangeLaws.{record-at, left-at, words-append, store-room}
-use Rattle.store.proofs.ReadingLaws.{read-later, rest-at}
+use Rattle.records.specs.Places.{HasWords}
+use Rattle.store.specs.Walks.{KeptFirst, Taken, PlaceAsked}
+use Rattle.records.specs.declared.Record.{Record}
+use Rattle.records.proofs.RecordLaws.{words-length, read-back, now-of-store, records-of-store, read-length, held-records, written-read}
+use Rattle.records.proofs.SoundLawsRanges.{ranged-parts, parts-ranged}
+use Rattle.records.proofs.SoundLawsKeys.{key-in-below}
+use Rattle.records.proofs.PlaceLaws.{record-at, store-room}
+use Rattle.store.proofs.ChangeLaws.{left-at, words-append}
+use Rattle.records.proofs.PlaceLaws.{read-later, rest-at}
 
 -- the records from record i on
 pub drop-record : (s : List ℤ) (i : ℕ) → i < heldOf s → drop i (recordsOf s) ≡ recordFrom s (recordWords * i + recordWords) ∷ drop (i + 1) (recordsOf s)

@@ -1,15 +1,15 @@
 -- The changes of a store, as changes of its sorted list of records.
 -- Assumes nothing.
-use mathlib.Core.Bool.{Bool, cond, not}
+use mathlib.Core.Bool.{Bool, cond}
 use mathlib.Core.List.{List, [], _∷_}
 use Prim.Native.Nat.{ℕ}
 use lib.IntN.{ℤ}
 use Rattle.ints.specs.Whole.{eqZ}
 use Rattle.grid.specs.declared.Report.{Report}
-use Rattle.rows.specs.Phases.{isLive, slotOf}
+use Rattle.rows.specs.Phases.{isLive}
 use Rattle.rows.specs.Table.{withSpeed}
-use Rattle.store.specs.Order.{keyIn, slotOfKey, numberOfKey, phaseOfKey, precedes}
-use Rattle.store.specs.declared.Record.{Record}
+use Rattle.records.specs.Order.{keyIn, slotOfKey, numberOfKey, phaseOfKey, precedes}
+use Rattle.records.specs.declared.Record.{Record}
 
 -- a record put at its place
 unfoldable pub inserted : Record → List Record → List Record

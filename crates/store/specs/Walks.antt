@@ -1,37 +1,20 @@
--- Places in a list of records, and what one pass over some records gathers: what the contracts of the private functions name. Nothing here is part
--- of what the public functions promise.
+-- What the contracts of the private functions that change a store name. Nothing here is part of what the public functions promise.
 -- Assumes nothing.
 use mathlib.Core.Path.{_≡_}
-use mathlib.Core.Bool.{Bool, true, cond, _&&_}
-use mathlib.Core.List.{List, [], _∷_, _++_}
-use Prim.Native.Nat.{ℕ, suc, _+_, _-_, _*_, _/_, _≤_, _<_, _^_}
-use lib.Dec.{eqb}
-use lib.IntN.{ℤ, pos, natAbs}
-use lib.Signed.{leZ}
+use mathlib.Core.Bool.{Bool, true}
+use mathlib.Core.List.{List, _++_}
+use Prim.Native.Nat.{ℕ, _+_, _-_, _*_, _≤_}
+use lib.IntN.{ℤ}
 use lib.ListN.{length, take, drop}
 use Rattle.ints.specs.Whole.{eqZ}
-use Rattle.grid.specs.Units.{cells, capacity}
-use Rattle.grid.specs.Reports.{isListed}
-use Rattle.grid.specs.declared.Rect.{Rect}
+use Rattle.grid.specs.Units.{capacity}
 use Rattle.rows.specs.Table.{tableWords}
-use Rattle.store.specs.Records.{recordWords, nowOf, heldOf, readRecords, recordsOf, wordsOfAll, storeOf}
-use Rattle.store.specs.Order.{precedes}
-use Rattle.store.specs.Soundness.{allRanged, IsStore}
+use Rattle.records.specs.Records.{recordWords, heldOf, readRecords, recordsOf, wordsOfAll}
+use Rattle.records.specs.Order.{precedes}
+use Rattle.records.specs.Soundness.{allRanged}
 use Rattle.store.specs.Changes.{kept, replaced}
-use Rattle.store.specs.Reading.{inSet, betweenKeys, risingFrom}
-use Rattle.store.specs.declared.Record.{Record}
-use Rattle.store.specs.declared.reading.Run.{Run}
-use Rattle.store.specs.declared.reading.Tally.{Tally}
-
--- what putting a record in or taking one out asks of a store: that its words are those of its records, sorted or not
-pub record HasWords (s : List ℤ) : Type 0 where
-  pub words : s ≡ storeOf (nowOf s) (recordsOf s)
-  pub few : length (recordsOf s) ≤ capacity
-
--- how many records stand before the first that passes a test; all of them where none does
-unfoldable pub firstOf : (Record → Bool) → List Record → ℕ
-firstOf f [] = 0
-firstOf f (a ∷ rs) = cond (f a) 0 (suc (firstOf f rs))
+use Rattle.records.specs.declared.Record.{Record}
+use Rattle.records.specs.Places.{firstOf, HasWords}
 
 -- before the place of r
 abbrev pub placeOf : Record → List Record → ℕ
@@ -43,65 +26,6 @@ hasThat id a = eqZ (a .report .id) id
 
 abbrev pub indexOf : ℤ → List Record → ℕ
 indexOf id = firstOf (hasThat id)
-
--- before the first record whose key is at least the given one
-abbrev pub isFrom : ℤ → Record → Bool
-isFrom key a = leZ key (a .key)
-
-abbrev pub firstFrom : ℤ → List Record → ℕ
-firstFrom key = firstOf (isFrom key)
-
--- the records of some words: as many as there are whole sevens
-abbrev pub recordsIn : List ℤ → List Record
-recordsIn w = readRecords (length w / recordWords) w
-
--- the words of a store from `start` up to `stop` are those of the records between two keys
-pub record RunIs (s : List ℤ) (low high : ℤ) (run : Run) : Type 0 where
-  pub ordered : run .start ≤ run .stop
-  pub inside : run .stop ≤ length s
-  pub reads : recordsIn (take (run .stop - run .start) (drop (run .start) s)) ≡ betweenKeys low high (recordsOf s)
-
--- a run of marked cells: those from `number` up to `stop`, which is not among them
-pub record RunOfMarks (marks : List ℕ) (number stop : ℕ) : Type 0 where
-  pub longer : number < stop
-  pub within : stop ≤ cells
-  pub marked : (k : ℕ) → number ≤ k → k < stop → inSet marks k ≡ true
-
--- the listed ones among some records
-unfoldable pub listedOf : Rect → ℤ → List Record → List Record
-listedOf q asked [] = []
-listedOf q asked (r ∷ rs) = cond (isListed q asked (r .report)) (r ∷ listedOf q asked rs) (listedOf q asked rs)
-
--- one more listed record counted: its cell is a new useful one unless the last record listed had its key
-unfoldable pub counted : Tally → Record → Tally
-counted t r = record {
-  listed = t .listed + 1;
-  useful = cond (eqZ (r .key) (t .last)) (t .useful) (t .useful + 1);
-  last = r .key;
-}
-
-unfoldable pub tallied : Tally → List Record → Tally
-tallied t [] = t
-tallied t (r ∷ rs) = tallied (counted t r) rs
-
--- what a pass over one run asks: few words, records in range, marks for all ids, counts that have room
-pub record RunFits (w : List ℤ) (asked : ℤ) (found : List ℕ) (t : Tally) : Type 0 where
-  pub few : length w ≤ 7175
-  pub ranged : allRanged (recordsIn w) ≡ true
-  pub small : natAbs asked ≤ 2 ^ 30
-  pub marks : length found ≡ 65536
-  pub few-listed : t .listed ≤ capacity
-  pub few-useful : t .useful ≤ capacity
-
--- what reading the records between two keys asks
-pub record RunAsked (s : List ℤ) (low high asked : ℤ) (found : List ℕ) (t : Tally) : Type 0 where
-  pub store : IsStore s
-  pub ordered : leZ low high ≡ true
-  pub small-key : leZ high (pos 4096) ≡ true
-  pub small : natAbs asked ≤ 2 ^ 30
-  pub marks : length found ≡ 65536
-  pub few-listed : t .listed ≤ capacity
-  pub few-useful : t .useful ≤ capacity
 
 -- the records that live on written one after the other behind record 0 of a store, the words from its last record on as they were; what lies between
 -- is left open
@@ -124,23 +48,3 @@ pub record PlaceAsked (s t dead : List ℤ) (m : ℕ) : Type 0 where
   pub inside : recordWords * m ≤ length dead
   pub total : m + length (recordsOf s) ≤ capacity
   pub ranged : allRanged (readRecords m dead) ≡ true
-
--- no mark is set
-unfoldable pub isClear : List ℕ → Bool
-isClear [] = true
-isClear (m ∷ ms) = eqb m 0 && isClear ms
-
--- what writing the marked ids from `first` up to `stop` to a list from `start` on asks
-pub record HasRoom (found : List ℕ) (first stop : ℕ) (list : List ℕ) (start : ℕ) : Type 0 where
-  pub marks : length found ≡ 65536
-  pub ordered : first ≤ stop
-  pub within : stop ≤ 65536
-  pub room : start + length (risingFrom found first (stop - first)) ≤ length list
-
--- the marked ids from `first` up to `stop` written over a list from `start` up to `end`, what lies before and after as it was
-pub record Written (found : List ℕ) (first stop : ℕ) (list : List ℕ) (start : ℕ) (list′ : List ℕ) (end : ℕ) : Type 0 where
-  pub long : length list′ ≡ length list
-  pub later : start ≤ end
-  pub inside : end ≤ length list′
-  pub ids : take end list′ ≡ take start list ++ risingFrom found first (stop - first)
-  pub rest : drop end list′ ≡ drop end list

@@ -3,7 +3,7 @@ ghost use mathlib.Core.Path.{_≡_};
 ghost use mathlib.Core.List.{[]};
 ghost use lib.IntN.{pos};
 ghost use lib.ListN.{length, replicate};
-ghost use Rattle.store.specs.Records.{storeWords, storeOf};
+ghost use Rattle.records.specs.Records.{storeWords, storeOf};
 
 // Every word zero.
 pub fn clear(words: &mut [i32])

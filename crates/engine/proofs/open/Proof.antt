@@ -15,8 +15,8 @@ use Rattle.ledger.specs.Refusals.{Check, check, firstToFail, badTime, badStepTi
 use Rattle.ledger.specs.declared.Answer.{Answer}
 use Rattle.ledger.specs.declared.Answer.the-variants.{Accepted, WrongLength, Unsound, BadTime, BadNumber, AlreadyHeld, NotHeld, Full}
 use Rattle.ledger.specs.Answers.{isAccepted}
-use Rattle.store.specs.Records.{nowOf, recordsOf, storeOf}
-use Rattle.store.specs.Order.{hasId}
+use Rattle.records.specs.Records.{nowOf, recordsOf, storeOf}
+use Rattle.records.specs.Order.{hasId}
 use Rattle.store.specs.Changes.{inserted, removed, placedIn}
 use Rattle.rows.specs.Phases.{phaseOf}
 use Rattle.grid.specs.Units.{capacity}

@@ -13,7 +13,7 @@ use lib.ListN.{length}
 use Rattle.ints.specs.Whole.{up}
 use Rattle.rows.specs.Phases.{phaseOf, isLive, livePhases}
 use Rattle.rows.proofs.PhaseLaws.{range-live}
-use Rattle.store.specs.Records.{nowOf}
+use Rattle.records.specs.Records.{nowOf}
 use Rattle.engine.specs.Gives.{CanAskIn}
 use Rattle.engine.specs.Counted.{CountedIn}
 use Rattle.engine.proofs.CheckLaws.{store-words-of}

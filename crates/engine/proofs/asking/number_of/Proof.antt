@@ -3,7 +3,7 @@
 use native.Mathlib.Omega.{arith}
 use Rattle.ints.proofs.Parts.{signed}
 use Rattle.ints.proofs.Machine.{known}
-use Rattle.store.proofs.SoundLawsRanges.{between-from}
+use Rattle.records.proofs.SoundLawsRanges.{between-from}
 use Rattle.engine.proofs.asking.number_of.Statement.{statement}
 use Rattle.engine.proofs.asking.number_of.Tie as tie
 

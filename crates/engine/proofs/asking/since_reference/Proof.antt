@@ -10,7 +10,7 @@ use mir.Facts.{toZ-ofZ}
 use Rattle.ints.proofs.Parts.{sub, one-part}
 use Rattle.ints.proofs.Machine.{back, fits, held}
 use Rattle.rows.specs.Phases.{referenceTime}
-use Rattle.store.proofs.SoundLawsRanges.{between-from}
+use Rattle.records.proofs.SoundLawsRanges.{between-from}
 use Rattle.engine.proofs.asking.since_reference.Statement.{statement}
 use Rattle.engine.proofs.asking.since_reference.Tie as tie
 

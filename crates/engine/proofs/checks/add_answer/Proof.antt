@@ -12,9 +12,9 @@ use borrow.Author.Tests.{le-leb, lt-leb}
 use Rattle.ledger.specs.declared.Answer.the-variants.{Accepted, BadTime, BadNumber, AlreadyHeld, Full}
 use Rattle.grid.specs.Units.{capacity}
 use Rattle.ledger.specs.Refusals.{badStepTime}
-use Rattle.store.specs.Records.{nowOf, recordsOf}
-use Rattle.store.specs.Order.{hasId}
-use Rattle.store.proofs.RecordLaws.{held-records}
+use Rattle.records.specs.Records.{nowOf, recordsOf}
+use Rattle.records.specs.Order.{hasId}
+use Rattle.records.proofs.RecordLaws.{held-records}
 use Rattle.ints.proofs.Machine.{tested₁}
 use Rattle.engine.proofs.CheckLaws.{fails, passes, accepts, store-words-of}
 use Prim.Native.Nat.{suc}

@@ -8,7 +8,7 @@ use mathlib.Core.Bool.{Bool, true, false, not}
 use lib.IntN.{ℤ}
 use Rattle.ledger.specs.declared.Answer.the-variants.{Accepted, BadTime, BadNumber}
 use Rattle.ledger.specs.Refusals.{badAskTime, badAsk}
-use Rattle.store.specs.Records.{nowOf, recordsOf}
+use Rattle.records.specs.Records.{nowOf, recordsOf}
 use Rattle.ints.proofs.Machine.{tested₁}
 use Rattle.engine.proofs.CheckLaws.{fails, passes, accepts, store-words-of}
 use Rattle.engine.proofs.checks.ask_refusal.Statement.{statement}

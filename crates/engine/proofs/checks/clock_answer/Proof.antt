@@ -6,8 +6,8 @@ use native.Mathlib.Omega.{arith}
 use mir.Syntax.{w32, w64}
 use Rattle.ledger.specs.declared.Answer.the-variants.{Accepted, BadTime}
 use Rattle.ledger.specs.Refusals.{badStepTime, badAskTime, badAsk, badReport, badId}
-use Rattle.store.specs.Records.{nowOf, recordsOf}
-use Rattle.store.proofs.RecordLaws.{held-records}
+use Rattle.records.specs.Records.{nowOf, recordsOf}
+use Rattle.records.proofs.RecordLaws.{held-records}
 use Rattle.ints.proofs.Machine.{tested₁}
 use Rattle.engine.proofs.CheckLaws.{fails, passes, accepts, store-words-of}
 use Rattle.engine.proofs.checks.clock_answer.Statement.{statement}

@@ -12,10 +12,10 @@ use Prim.Native.Nat.{ℕ, suc, _-_}
 use Rattle.ledger.specs.declared.Answer.the-variants.{Accepted, BadTime, BadNumber, NotHeld}
 use Rattle.grid.specs.Reports.{isId}
 use Rattle.ledger.specs.Refusals.{badStepTime}
-use Rattle.store.specs.Records.{nowOf, recordsOf}
-use Rattle.store.specs.Order.{hasId}
+use Rattle.records.specs.Records.{nowOf, recordsOf}
+use Rattle.records.specs.Order.{hasId}
 use Rattle.store.specs.Changes.{removed}
-use Rattle.store.proofs.RecordLaws.{held-records}
+use Rattle.records.proofs.RecordLaws.{held-records}
 use Rattle.engine.specs.Index.{recordsAfterStep}
 use Rattle.ints.proofs.Machine.{tested₁}
 use Rattle.engine.proofs.CheckLaws.{fails, passes, accepts, store-words-of, drop-count}

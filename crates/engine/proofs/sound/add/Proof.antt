@@ -12,8 +12,8 @@ use lib.ListN.{length}
 use Rattle.ledger.specs.Refusals.{check, firstToFail, badReport}
 use Rattle.ledger.specs.declared.Answer.the-variants.{Accepted, BadNumber, AlreadyHeld, Full}
 use Rattle.ledger.specs.Answers.{isAccepted}
-use Rattle.store.specs.Records.{recordsOf}
-use Rattle.store.specs.Order.{hasId}
+use Rattle.records.specs.Records.{recordsOf}
+use Rattle.records.specs.Order.{hasId}
 use Rattle.grid.specs.Units.{capacity}
 use lib.Dec.{leb}
 use Rattle.rows.specs.Table.{tableWords}

@@ -9,7 +9,7 @@ use lib.IntN.{ℤ}
 use mathlib.Core.List.{[], _∷_}
 use Rattle.ledger.specs.Refusals.{check, firstToFail, badAskTime, badAsk}
 use Rattle.ledger.specs.declared.Answer.the-variants.{Accepted, BadTime, BadNumber}
-use Rattle.store.specs.Records.{nowOf}
+use Rattle.records.specs.Records.{nowOf}
 use Rattle.engine.proofs.CheckLaws.{sound-is-store, sound-passed}
 use Rattle.engine.proofs.CallLaws.{ask-refused, ask-passed}
 use Rattle.engine.proofs.sound.ask.Statement.{statement}

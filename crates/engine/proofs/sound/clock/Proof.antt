@@ -12,7 +12,7 @@ use lib.ListN.{length}
 use Rattle.ledger.specs.Refusals.{firstToFail}
 use Rattle.ledger.specs.declared.Answer.the-variants.{Accepted}
 use Rattle.ledger.specs.Answers.{isAccepted}
-use Rattle.store.specs.Records.{recordsOf}
+use Rattle.records.specs.Records.{recordsOf}
 use Rattle.engine.specs.Index.{lentChecks, clockChecks, clockOut}
 use Rattle.engine.specs.Gives.{CanStep, Stepped}
 use Rattle.engine.proofs.CheckLaws.{sound-is-store, sound-passed}

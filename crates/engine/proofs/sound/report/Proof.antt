@@ -12,8 +12,8 @@ use lib.ListN.{length}
 use Rattle.ledger.specs.Refusals.{check, firstToFail, badReport}
 use Rattle.ledger.specs.declared.Answer.the-variants.{Accepted, BadNumber, NotHeld}
 use Rattle.ledger.specs.Answers.{isAccepted}
-use Rattle.store.specs.Records.{nowOf, recordsOf, storeOf}
-use Rattle.store.specs.Order.{hasId}
+use Rattle.records.specs.Records.{nowOf, recordsOf, storeOf}
+use Rattle.records.specs.Order.{hasId}
 use Rattle.store.specs.Changes.{removed}
 use mathlib.Core.Bool.{not}
 use Rattle.rows.specs.Table.{tableWords}

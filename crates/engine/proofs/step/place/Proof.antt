@@ -7,14 +7,14 @@ use Rattle.ints.proofs.Machine.{tested₁}
 use mathlib.Core.Bool.{true}
 use lib.IntN.{ℤ}
 use Rattle.rows.specs.Phases.{phaseOf}
-use Rattle.store.specs.Records.{nowOf, recordsOf, storeOf}
-use Rattle.store.specs.Soundness.{isRanged}
+use Rattle.records.specs.Records.{nowOf, recordsOf, storeOf}
+use Rattle.records.specs.Soundness.{isRanged}
 use Rattle.store.specs.Changes.{inserted, placedIn}
-use Rattle.store.specs.declared.Record.{Record}
+use Rattle.records.specs.declared.Record.{Record}
 use Rattle.grid.specs.declared.Report.{Report}
 use Prim.Native.Nat.{ℕ}
-use Rattle.store.proofs.SoundLawsRanges.{last-phase, parts-ranged}
-use Rattle.store.proofs.SoundLawsKeys.{key-in-below}
+use Rattle.records.proofs.SoundLawsRanges.{last-phase, parts-ranged}
+use Rattle.records.proofs.SoundLawsKeys.{key-in-below}
 use Rattle.engine.specs.Index.{widenedBy}
 use Rattle.engine.proofs.step.place.Statement.{statement}
 use Rattle.engine.proofs.step.place.Tie as tie

@@ -9,7 +9,7 @@ use mathlib.Core.List.{List}
 use lib.IntN.{ℤ}
 use Prim.Native.Nat.{ℕ}
 use Rattle.rows.specs.Phases.{phaseOf}
-use Rattle.store.specs.Records.{nowOf, recordsOf, storeOf}
+use Rattle.records.specs.Records.{nowOf, recordsOf, storeOf}
 use Rattle.engine.specs.Gives.{CanMove, Moved}
 use Rattle.engine.proofs.CheckLaws.{store-words-of}
 use Rattle.engine.proofs.StepLaws.{is-store, same-step, can-move, moved-store, later-step}

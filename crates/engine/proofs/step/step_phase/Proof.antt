@@ -4,7 +4,7 @@ use mathlib.Core.Path.{_≡_, refl, sym, ap, _∙_}
 use borrow.Author.Needs.{needs}
 use mathlib.Core.List.{List}
 use lib.IntN.{ℤ}
-use Rattle.store.specs.Records.{recordsOf}
+use Rattle.records.specs.Records.{recordsOf}
 use Rattle.store.specs.Changes.{replaced, withSpeeds}
 use Rattle.engine.proofs.step.step_phase.Statement.{statement}
 use Rattle.engine.proofs.step.step_phase.Tie as tie

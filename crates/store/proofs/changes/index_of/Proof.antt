@@ -6,7 +6,7 @@ use Prim.Native.Nat.{_+_, _*_, _-_, _≤_}
 use lib.ListN.{drop}
 use mir.Syntax.{w32}
 use mir.Val.{toZ}
-use Rattle.store.specs.Records.{recordsOf, readRecords}
+use Rattle.records.specs.Records.{recordsOf, readRecords}
 use Rattle.store.specs.Walks.{indexOf}
 use Rattle.store.proofs.ChangeLaws.{walk-start, walk-more, id-tested, index-here, index-end}
 use Rattle.store.proofs.changes.index_of.Statement.{statement}

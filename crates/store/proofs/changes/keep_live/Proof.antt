@@ -3,8 +3,8 @@
 use borrow.Author.Needs.{needs}
 use native.Mathlib.Omega.{arith}
 use Prim.Native.Nat.{_-_}
-use Rattle.store.proofs.SoundLawsRanges.{ranged-parts}
-use Rattle.store.proofs.ChangeLaws.{store-room}
+use Rattle.records.proofs.SoundLawsRanges.{ranged-parts}
+use Rattle.records.proofs.PlaceLaws.{store-room}
 use Rattle.store.proofs.StepLaws.{Pass, pass-start, pass-ranged, pass-live, pass-dead, pass-end}
 use Rattle.store.proofs.changes.keep_live.Statement.{statement}
 use Rattle.store.proofs.changes.keep_live.Tie as tie

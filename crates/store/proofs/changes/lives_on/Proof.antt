@@ -6,8 +6,8 @@ use mathlib.Core.Path.{ap, _∙_}
 use mir.Syntax.{w32}
 use Rattle.ints.proofs.Machine.{back, tested₁}
 use Rattle.rows.specs.Phases.{isLive}
-use Rattle.store.specs.Order.{phaseOfKey}
-use Rattle.store.proofs.SoundLawsKeys.{phase-of-key-small}
+use Rattle.records.specs.Order.{phaseOfKey}
+use Rattle.records.proofs.SoundLawsKeys.{phase-of-key-small}
 use Rattle.store.proofs.changes.lives_on.Statement.{statement}
 use Rattle.store.proofs.changes.lives_on.Tie as tie
 

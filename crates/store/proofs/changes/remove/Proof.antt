@@ -2,7 +2,8 @@
 -- Assumes nothing.
 use borrow.Author.Needs.{needs}
 use native.Mathlib.Omega.{arith}
-use Rattle.store.proofs.ChangeLaws.{store-room, has-words, remove-found, remove-none, index-read}
+use Rattle.records.proofs.PlaceLaws.{store-room, has-words}
+use Rattle.store.proofs.ChangeLaws.{remove-found, remove-none, index-read}
 use Rattle.store.proofs.changes.remove.Statement.{statement}
 use Rattle.store.proofs.changes.remove.Tie as tie
 

@@ -2,7 +2,8 @@
 -- Assumes nothing.
 use borrow.Author.Needs.{needs}
 use native.Mathlib.Omega.{arith}
-use Rattle.store.proofs.ChangeLaws.{store-room, now-set}
+use Rattle.records.proofs.PlaceLaws.{store-room}
+use Rattle.store.proofs.ChangeLaws.{now-set}
 use Rattle.store.proofs.changes.set_now.Statement.{statement}
 use Rattle.store.proofs.changes.set_now.Tie as tie
 

@@ -5,7 +5,7 @@ use native.Mathlib.Omega.{arith}
 use borrow.Rule.Slice.PartMut.{same-len-mid}
 use lib.IntN.{ℤ}
 use Prim.Native.Nat.{_+_, _*_, _-_}
-use Rattle.store.proofs.ChangeLaws.{store-room}
+use Rattle.records.proofs.PlaceLaws.{store-room}
 use Rattle.store.proofs.StepLaws.{taken-out}
 use Rattle.store.proofs.changes.take_dead.Statement.{statement}
 use Rattle.store.proofs.changes.take_dead.Tie as tie

@@ -6,8 +6,8 @@ use mathlib.Core.Path.{_≡_, _∙_}
 use mir.Syntax.{w16, w32}
 use Rattle.ints.proofs.Machine.{back, held, tested₁}
 use Rattle.rows.specs.Table.{withSpeed}
-use Rattle.store.specs.Order.{slotOfKey, numberOfKey}
-use Rattle.store.proofs.SoundLawsRanges.{speed-held, ranges, ranged-parts, slot-below, number-of-key-below}
+use Rattle.records.specs.Order.{slotOfKey, numberOfKey}
+use Rattle.records.proofs.SoundLawsRanges.{speed-held, ranges, ranged-parts, slot-below, number-of-key-below}
 use Rattle.store.proofs.changes.widen.Statement.{statement}
 use Rattle.store.proofs.changes.widen.Tie as tie
 

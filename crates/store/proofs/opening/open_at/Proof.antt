@@ -8,7 +8,7 @@ use lib.IntN.{ℤ, pos}
 use lib.ListN.{length, set, replicate}
 use mir.Syntax.{w32}
 use Rattle.ints.proofs.Machine.{held}
-use Rattle.store.specs.Records.{storeWords, wordsOfAll, storeOf}
+use Rattle.records.specs.Records.{storeWords, wordsOfAll, storeOf}
 use Rattle.store.proofs.opening.open_at.Statement.{statement}
 use Rattle.store.proofs.opening.open_at.Tie as tie
 

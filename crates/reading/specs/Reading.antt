@@ -1,0 +1,83 @@
+-- Reading, for any set of cells of a slot: the listed floats whose records lie in the set, how many cells the set has, and how many of them hold
+-- a listed float. Document 01, "The four ways to choose cells", its last paragraph.
+-- Assumes nothing.
+use mathlib.Core.Path.{_≡_}
+use mathlib.Core.Bool.{Bool, false, _&&_, _||_, not, cond}
+use mathlib.Core.List.{List, [], _∷_}
+use Prim.Native.Nat.{ℕ, zero, suc, _+_, _*_, _≤_}
+use lib.Dec.{eqb}
+use lib.IntN.{ℤ, pos}
+use lib.ListN.{length, getD, set}
+use Rattle.ints.specs.Whole.{up, eqZ, between}
+use Rattle.grid.specs.Units.{cells, lastId}
+use Rattle.grid.specs.Reports.{isListed}
+use Rattle.grid.specs.declared.Rect.{Rect}
+use Rattle.records.specs.Order.{slotOfKey, numberOfKey}
+use Rattle.records.specs.declared.Record.{Record}
+use Rattle.reading.specs.declared.Reading.{Reading}
+
+-- a set of cells, by curve number: a mark that is not 0
+abbrev pub inSet : List ℕ → ℕ → Bool
+inSet marks number = not (eqb (getD marks number 0) 0)
+
+-- the records between two keys, both included
+unfoldable pub betweenKeys : ℤ → ℤ → List Record → List Record
+betweenKeys low high [] = []
+betweenKeys low high (r ∷ rs) = cond (between low high (r .key)) (r ∷ betweenKeys low high rs) (betweenKeys low high rs)
+
+-- whether reading a set of cells of a slot lists a record
+abbrev pub isRead : List ℕ → ℕ → Rect → ℤ → Record → Bool
+isRead marks slot q asked r =
+    (eqb (slotOfKey (r .key)) slot && inSet marks (numberOfKey (r .key))) && isListed q asked (r .report)
+
+unfoldable pub listedIn : List ℕ → ℕ → Rect → ℤ → List Record → List Record
+listedIn marks slot q asked [] = []
+listedIn marks slot q asked (r ∷ rs) =
+    cond (isRead marks slot q asked r) (r ∷ listedIn marks slot q asked rs) (listedIn marks slot q asked rs)
+
+-- the cells of the set, from curve number `number` on, n of them
+unfoldable pub cellsIn : List ℕ → ℕ → ℕ → ℕ
+cellsIn marks number zero = 0
+cellsIn marks number (suc n) = cond (inSet marks number) 1 0 + cellsIn marks (suc number) n
+
+-- whether a record has a key
+unfoldable pub hasKey : ℤ → List Record → Bool
+hasKey key [] = false
+hasKey key (r ∷ rs) = eqZ (r .key) key || hasKey key rs
+
+-- the useful ones among the n cells of a slot from `number` on: those with one of the listed records
+unfoldable pub usefulIn : ℕ → List Record → ℕ → ℕ → ℕ
+usefulIn slot listed number zero = 0
+usefulIn slot listed number (suc n) =
+    cond (hasKey (pos (slot * cells + number)) listed) 1 0 + usefulIn slot listed (suc number) n
+
+-- the marks of ids with those of some records set
+unfoldable pub withIds : List ℕ → List Record → List ℕ
+withIds found [] = found
+withIds found (r ∷ rs) = withIds (set found (up (r .report .id)) 1) rs
+
+-- what reading gives back: floats listed, cells read, useful cells
+pub record ReadingOf (marks : List ℕ) (slot : ℕ) (q : Rect) (asked : ℤ) (rs : List Record) (r : Reading) : Type 0 where
+  pub listed-are : r .listed ≡ length (listedIn marks slot q asked rs)
+  pub cells-are : r .cells ≡ cellsIn marks 0 cells
+  pub useful-are : r .useful ≡ usefulIn slot (listedIn marks slot q asked rs) 0 cells
+
+-- a reading none of whose counts is above `most`
+pub record SmallReading (most : ℕ) (r : Reading) : Type 0 where
+  pub few-listed : r .listed ≤ most
+  pub few-cells : r .cells ≤ most
+  pub few-useful : r .useful ≤ most
+
+-- two readings summed
+pub record ReadTogether (a b r : Reading) : Type 0 where
+  pub listed-sum : r .listed ≡ a .listed + b .listed
+  pub cells-sum : r .cells ≡ a .cells + b .cells
+  pub useful-sum : r .useful ≡ a .useful + b .useful
+
+-- the marked ids from `id` on, n of them, by rising number
+unfoldable pub risingFrom : List ℕ → ℕ → ℕ → List ℕ
+risingFrom found id zero = []
+risingFrom found id (suc n) = cond (inSet found id) (id ∷ risingFrom found (suc id) n) (risingFrom found (suc id) n)
+
+abbrev pub rising : List ℕ → List ℕ
+rising found = risingFrom found 1 lastId

@@ -1,0 +1,7 @@
+pub mod RecordLaws
+pub mod PlaceLaws
+pub mod SoundLawsRanges
+pub mod SoundLawsKeys
+pub mod SoundLawsTurns
+pub mod SoundLawsMarks
+pub mod SoundLaws

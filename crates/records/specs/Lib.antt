@@ -1,0 +1,4 @@
+pub mod Records
+pub mod Order
+pub mod Soundness
+pub mod Places
