@@ -6,14 +6,13 @@ use mathlib.Core.Bool.{Bool, true, cond}
 use mathlib.Core.List.{List, [], _∷_, map}
 use Prim.Native.Nat.{ℕ}
 use lib.Dec.{eqb}
-use lib.IntN.{ℤ}
 use lib.ListN.{take}
 use Rattle.ledger.specs.Answers.{numberOf, valueOf, isAccepted}
 use Rattle.ledger.specs.Machine.{opened}
 use Rattle.ledger.specs.Calls as Ledger
 use Rattle.ledger.specs.declared.Answer.{Answer}
 use Rattle.ledger.proofs.Claims.{refusals-are-plain}
-use Rattle.engine.specs.Index.{Outcome, AskOutcome, openOut, askOut}
+use Rattle.engine.specs.Index.{Outcome, AskOutcome, openOut}
 use Rattle.history.specs.Index as Index
 use Rattle.history.specs.Index.{Words, LentCall, fedAll, openedWords, replyOfAsk, wordsOf}
 use Rattle.history.proofs.Claims.{every-history-is-the-ledgers}

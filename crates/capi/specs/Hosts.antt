@@ -8,8 +8,6 @@ use Prim.Native.Nat.{ℕ}
 use lib.Dec.{eqb}
 use lib.IntN.{ℤ}
 use lib.ListN.{length, take}
-use Rattle.grid.specs.declared.Rect.{Rect}
-use Rattle.grid.specs.declared.Report.{Report}
 use Rattle.ledger.specs.Machine.{opened}
 use Rattle.ledger.specs.Calls as Ledger
 use Rattle.engine.specs.Index.{openOut, clockOut, addOut, reportOut, dropOut, askOut}

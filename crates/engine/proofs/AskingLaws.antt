@@ -45,7 +45,7 @@ use Rattle.engine.proofs.ListIsExact.{list-is-exact}
 use Rattle.engine.specs.Counted.{CanChoose, CanRead, ReadIn, SmallCounts, CountedTogether, CountedIn, CountedOver}
 use Rattle.engine.specs.declared.asking.Counts.{Counts}
 use Rattle.grid.specs.Units.{cells}
-use Rattle.engine.proofs.AskLaws.{FitAsk, fit-ask, asked-in}
+use Rattle.engine.proofs.AskLaws.{fit-ask, asked-in}
 
 or-none : (a b : Bool) → a || b ≡ false → a ≡ false
 or-none true b h = h

@@ -1,28 +1,25 @@
 -- The clock step over a sound index: in the same phase no record and no row changes; in a later one the words stay those of a store.
 -- Assumes nothing.
 use mathlib.Core.Path.{_≡_, refl, sym, ap, ap₂, _∙_}
-use mathlib.Core.Bool.{Bool, true, false, cond}
+use mathlib.Core.Bool.{true}
 use mathlib.Core.List.{List, [], _∷_, List·Memᴰ, List·Memᴰ·head, List·Memᴰ·tail}
-use Prim.Native.Nat.{ℕ, zero, suc, _+_, _≤_, _<_}
+use Prim.Native.Nat.{ℕ, _≤_}
 use native.Mathlib.Omega.{arith}
-use lib.Dec.{ltb}
-use lib.IntN.{ℤ, pos}
+use lib.IntN.{ℤ}
 use lib.ListN.{length}
 use lib.Signed.{leZ}
 use borrow.Author.Tests.{le-ltb}
-use Rattle.ints.specs.Whole.{up, between}
 use Rattle.ints.proofs.Parts.{le-true, one-part}
 use Rattle.grid.specs.Units.{capacity}
-use Rattle.grid.specs.Reports.{isTime}
-use Rattle.rows.specs.Phases.{phaseOf, isLive, livePhases}
+use Rattle.rows.specs.Phases.{phaseOf, livePhases}
 use Rattle.rows.specs.Table.{withLaterEmpty, withNewlyLiveEmpty}
 use Rattle.rows.proofs.PhaseLaws.{phase-is, live-range, listed-live}
 use Rattle.records.specs.Records.{nowOf, recordsOf, storeOf}
 use Rattle.records.specs.Order.{isSorted}
-use Rattle.records.specs.Soundness.{isSound, allRanged, IsStore}
+use Rattle.records.specs.Soundness.{allRanged, IsStore}
 use Rattle.store.specs.Changes.{livesOn, kept, replaced, insertedAll, steppedRecords, withSpeeds}
 use Rattle.records.specs.declared.Record.{Record}
-use Rattle.records.proofs.RecordLaws.{now-of-store, records-of-store, store-length}
+use Rattle.records.proofs.RecordLaws.{now-of-store, records-of-store}
 use Rattle.store.proofs.KeepLaws.{stepped-length, stepped-ranged, stepped-sorted}
 use Rattle.records.proofs.SoundLaws as Sound
 use Rattle.records.proofs.SoundLawsKeys.{right-placed}

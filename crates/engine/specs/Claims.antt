@@ -5,7 +5,7 @@ use mathlib.Core.Bool.{true, false, cond}
 use mathlib.Core.List.{List, [], _∷_}
 use Prim.Native.Nat.{ℕ}
 use lib.IntN.{ℤ}
-use lib.ListN.{length, replicate}
+use lib.ListN.{length}
 use Rattle.ints.specs.Whole.{up}
 use Rattle.grid.specs.Reports.{isListed}
 use Rattle.grid.specs.declared.Rect.{Rect}

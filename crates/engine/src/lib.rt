@@ -1,6 +1,5 @@
 // The index: its six public calls over lent buffers, with any numbers and any buffers. Each answers and leaves what its definition says. All but
 // open test the buffers and then make the call of their name over sound ones.
-ghost use mathlib.Core.Path.{_≡_};
 ghost use Rattle.engine.specs.Index.{openOut, clockOut, addOut, reportOut, dropOut, askOut};
 ghost use Rattle.engine.specs.Gives.{Gives, GivesList};
 

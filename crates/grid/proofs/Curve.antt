@@ -1,7 +1,7 @@
 -- The curve of the grid (order 5): its two tables hold the quadrant rule's numbers and cells, it visits each cell once, and neighbours on it
 -- share a side. ONE test, which antt computes over both tables, gives all of it; the laws below only read the test's parts.
 -- Assumes nothing.
-use mathlib.Core.Path.{_≡_, refl, sym, ap, _∙_}
+use mathlib.Core.Path.{_≡_, sym, ap, _∙_}
 use mathlib.Core.Bool.{Bool, true, false, _&&_, _||_}
 use mathlib.Core.Logic.{_⊎_, inl, inr, ⊎-elim}
 use Prim.Native.Nat.{ℕ, suc, _+_, _*_, _/_, _%_, _<_}
@@ -14,7 +14,7 @@ use Rattle.grid.specs.Units.{side, cells}
 use Rattle.grid.specs.Places.{OnGrid}
 use Rattle.grid.specs.Curve.{cell, numberAt, cellAt, curveNumber, cellOfNumber, apart}
 use Rattle.grid.specs.declared.Cell.{Cell}
-use Rattle.grid.proofs.Every.{left, right, every, at-place}
+use Rattle.grid.proofs.Every.{left, right, at-place}
 use Rattle.grid.proofs.Tables as Tables
 
 -- the tables' place of a cell, and the cell of a place

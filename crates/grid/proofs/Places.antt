@@ -1,18 +1,17 @@
 -- The law of the grid that everything above cites: a position lies in the span of a column exactly when that is its column, the endless
 -- sides of the edge columns included. Rows likewise, and cells by both.
 -- Assumes nothing.
-use mathlib.Core.Path.{_≡_, refl, sym, ap, ap₂, _∙_}
+use mathlib.Core.Path.{_≡_, refl, ap, ap₂, _∙_}
 use mathlib.Core.Bool.{Bool, true, false, _&&_}
 use mathlib.Core.Logic.{_⊎_, inl, inr, dite}
 use Prim.Native.Nat.{ℕ, zero, suc, _+_, _*_, _<_, _≤_, min, _/_}
 use native.Mathlib.Decide.{ℕ-discrete}
 use native.Mathlib.Omega.{arith}
 use lib.Dec.{eqb, eqb·suc-zero}
-use lib.IntN.{ℤ, pos, negsuc}
-use lib.Signed.{leZ}
-use borrow.Author.Tests.{eqb-true, eqb-false, eq-eqb, ne-eqb}
-use Rattle.ints.specs.Whole.{floorZ, raised-or-lowered}
-use Rattle.ints.proofs.Parts.{up, down, signed, one-part, up-floor, up-raised, le-true, true-le}
+use lib.IntN.{ℤ, pos}
+use borrow.Author.Tests.{eqb-true, eq-eqb, ne-eqb}
+use Rattle.ints.specs.Whole.{floorZ}
+use Rattle.ints.proofs.Parts.{up, one-part, up-floor, up-raised, le-true, true-le}
 use Rattle.ints.proofs.Truth.{same-truth, and-true, and-left, and-right}
 use Rattle.grid.specs.Units.{side, cellSize}
 use Rattle.grid.specs.Places.{columnOf, rowOf, cellSpan, inSpan, endAt, notBelow, notAbove, cellOf, inCell, OnGrid}

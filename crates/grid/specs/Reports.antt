@@ -1,8 +1,7 @@
 -- A float's report and where it says that the float is: document 01, "Units and the places on the grid". Positions are centimetres, speeds
 -- centimetres per second, times seconds.
 -- Assumes nothing.
-use mathlib.Core.Path.{_≡_}
-use mathlib.Core.Bool.{Bool, true, _&&_}
+use mathlib.Core.Bool.{Bool, _&&_}
 use lib.IntN.{ℤ, pos, negℤ, _-ℤ_}
 use Rattle.ints.specs.Whole.{between}
 use Rattle.grid.specs.Units.{lastPosition, speedLimit, lastTime, lastId}

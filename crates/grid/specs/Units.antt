@@ -1,7 +1,7 @@
 -- The numbers of document 01, "Units and the places on the grid", each named once. Positions are centimetres, speeds centimetres per
 -- second, times seconds.
 -- Assumes nothing.
-use Prim.Native.Nat.{ℕ, _-_, _*_}
+use Prim.Native.Nat.{ℕ}
 
 -- columns on the grid, and rows
 abbrev pub side : ℕ

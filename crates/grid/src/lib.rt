@@ -5,7 +5,7 @@ ghost use Prim.Native.Nat.{_≤_, _^_};
 ghost use lib.IntN.{natAbs, _-ℤ_};
 ghost use Rattle.grid.specs.Places.{positionAfter, columnOf, rowOf, cellOf, OnGrid};
 ghost use Rattle.grid.specs.Curve.{curveNumber, IsCurve};
-ghost use Rattle.grid.specs.Reports.{inRange, xAt, yAt, cellAtTime, inRect, isListed};
+ghost use Rattle.grid.specs.Reports.{xAt, yAt, cellAtTime, inRect, isListed};
 ghost use Rattle.grid.specs.Small.{SmallAxis, SmallReport};
 ghost use Rattle.ints.specs.Whole.{between};
 

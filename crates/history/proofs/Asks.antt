@@ -21,7 +21,7 @@ use Rattle.grid.specs.declared.Rect.{Rect}
 use Rattle.grid.proofs.Curve.{number-below, cell-of-its-number}
 use Rattle.rows.specs.Phases.{phaseOf, sinceReference, isLive, livePhases, slotOf}
 use Rattle.rows.proofs.PhaseLaws.{listed-live}
-use Rattle.methods.specs.Methods.{Choice, choice}
+use Rattle.methods.specs.Methods.{Choice}
 use Rattle.methods.specs.Chosen.{rowsOfSlot}
 use Rattle.methods.proofs.ChoiceLaws.{choice-same}
 use Rattle.records.specs.Records.{nowOf}

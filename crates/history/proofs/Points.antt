@@ -1,7 +1,7 @@
 -- Every point goes on: the words there match the ledger, so they are sound and the next call answers as the ledger does; and a list with one call
 -- more is a list.
 -- Assumes nothing.
-use mathlib.Core.Path.{_≡_, refl, sym, ap, _∙_}
+use mathlib.Core.Path.{_≡_, refl, ap, _∙_}
 use mathlib.Core.List.{List, [], _∷_, _++_}
 use Rattle.ledger.specs.Machine.{Ledger}
 use Rattle.ledger.specs.Calls as L

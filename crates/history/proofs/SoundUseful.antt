@@ -35,7 +35,6 @@ use Rattle.records.specs.declared.Record.{Record}
 use Rattle.records.proofs.SoundLawsKeys.{number-of-key-in}
 use Rattle.records.proofs.SoundLaws.{Sound}
 use Rattle.reading.proofs.ListedLaws.{listed-is, key-among}
-use Rattle.ledger.specs.Answers.{Counts}
 use Rattle.ledger.specs.Machine.{Held, placeIn, listedHeld, isUseful, usefulCells, summed}
 use Rattle.ledger.proofs.SumLaws.{summed-same}
 use Rattle.engine.specs.Index.{choiceOf, marksIn, listedOf, usefulCounted}

@@ -5,7 +5,7 @@ use mathlib.Core.Bool.{Bool, true, false, cond}
 use Prim.Native.Nat.{min, max}
 use native.Mathlib.Omega.{arith}
 use lib.IntN.{ℤ}
-use lib.Signed.{leZ, ltZ}
+use lib.Signed.{leZ}
 use Rattle.ints.specs.Whole.{minZ, maxZ}
 use Rattle.ints.proofs.Parts.{up, down, equal-parts, one-part, le-true, le-false, signed}
 

@@ -1,13 +1,12 @@
 -- Laws of lists: a stretch of a list moved by some places, and a stretch written over.
 -- Assumes nothing.
-use mathlib.Core.Path.{_≡_, refl, sym, ap, _∙_}
-use mathlib.Core.List.{List, [], _∷_, _++_, append-assoc, append-nil}
-use Prim.Native.Nat.{ℕ, zero, suc, _+_, _-_, _≤_, _<_}
-use native.Mathlib.Nat.{add-zero}
+use mathlib.Core.Path.{_≡_, sym, ap, _∙_}
+use mathlib.Core.List.{List, _∷_, _++_, append-nil}
+use Prim.Native.Nat.{ℕ, suc, _+_, _-_, _≤_, _<_}
 use native.Mathlib.Numerals.{add-one}
 use native.Mathlib.Omega.{arith}
-use lib.ListN.{length, getD, set, take, drop, length-append, length-drop, length-take, length-set, take-append-drop, List·getD-append, drop-of-length-le}
-use lib.Seq.{take-suc, drop-cons, getD-take, getD-drop, set-at, length-take-le, take-all, take-at, drop-at, append-snoc, getD-append-add, drop-drop}
+use lib.ListN.{length, getD, set, take, drop, length-append, length-drop, length-take, List·getD-append, drop-of-length-le}
+use lib.Seq.{take-suc, drop-cons, getD-take, getD-drop, set-at, length-take-le, take-all, append-snoc, getD-append-add}
 
 module _ {A : Type 0} (d : A) where
   -- ---- every element but the last m moved up by m places, from the back: i is the place that was written last

@@ -9,7 +9,7 @@ use native.Mathlib.Nat.{mul-le-mul, mul-le-mul-right, zero-div}
 use native.Mathlib.Omega.{arith}
 use lib.Dec.{T, ltb, leb·zero, leb·suc-zero}
 use lib.IntN.{ℤ, pos, negsuc, negℤ, subℕ, _+ℤ_, _-ℤ_, _*ℤ_, natAbs}
-use lib.Signed.{mag, leZ, ltZ, nonNeg}
+use lib.Signed.{leZ, ltZ, nonNeg}
 use borrow.Author.Tests.{ltb-true, ltb-false, leb-true, leb-false, le-leb, lt-leb, lt-ltb, le-ltb}
 use Rattle.ints.specs.Whole.{floorZ, raised-or-lowered}
 pub use Rattle.ints.specs.Whole.{up, down}

@@ -2,7 +2,7 @@
 -- so do a worked list with each refusal from 3 on, and a full ledger. Each number from 3 to 8 is given by a call.
 -- Assumes nothing.
 use mathlib.Core.Path.{_≡_, refl}
-use mathlib.Core.List.{List, map}
+use mathlib.Core.List.{map}
 use lib.IntN.{pos}
 use Rattle.ints.specs.Whole.{minZ, maxZ, eqZ}
 use Rattle.grid.specs.Places.{columnOf, cellSpan}

@@ -13,7 +13,7 @@ use Rattle.grid.specs.declared.Rect.{Rect}
 use Rattle.grid.specs.declared.Report.{Report}
 use Rattle.ledger.specs.Answers.{isAccepted}
 use Rattle.ledger.specs.Refusals.{Check, check, firstToFail, badTime, badStepTime, badAskTime, badReport, badId, badAsk}
-use Rattle.ledger.specs.Machine.{Ledger, opened, stepped, isHeld, added, reported, dropped, idsListed, cellsRead, usefulRead, roundsTaken}
+use Rattle.ledger.specs.Machine.{Ledger, stepped, isHeld, added, reported, dropped, idsListed, cellsRead, usefulRead, roundsTaken}
 use Rattle.ledger.specs.declared.Answer.{Answer}
 use Rattle.ledger.specs.declared.Answer.the-variants.{Accepted, Listed, BadTime, BadNumber, AlreadyHeld, NotHeld, Full, ListTooShort}
 

@@ -1,8 +1,8 @@
 -- The plain ledger: document 01, "The plain ledger". It keeps the time, the held reports and the placements, and knows nothing of buffers, keys
 -- or slots.
 -- Assumes nothing.
-use mathlib.Core.Bool.{Bool, true, false, _&&_, _||_, cond}
-use mathlib.Core.List.{List, [], _∷_, _++_, map}
+use mathlib.Core.Bool.{Bool, false, _&&_, _||_, cond}
+use mathlib.Core.List.{List, [], _∷_, _++_}
 use Prim.Native.Nat.{ℕ, _+_}
 use lib.Dec.{eqb, leb}
 use lib.IntN.{ℤ}

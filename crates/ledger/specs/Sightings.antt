@@ -9,11 +9,11 @@ use Rattle.grid.specs.Sightings.{Sighting}
 use Rattle.grid.specs.Sightings as Grid
 use Rattle.grid.specs.declared.Rect.{Rect}
 use Rattle.grid.specs.declared.Report.{Report}
-use Rattle.ledger.specs.Answers.{numberOf, valueOf, countsOf}
+use Rattle.ledger.specs.Answers.{numberOf, countsOf}
 use Rattle.ledger.specs.Machine.{Ledger, Held, Placement, opened}
 use Rattle.ledger.specs.Calls.{Call, Reply, clock, add, report, drop, ask, after, answerTo}
 use Rattle.ledger.specs.declared.Answer.{Answer}
-use Rattle.ledger.specs.declared.Answer.the-variants.{Accepted, Listed, BadTime, BadNumber, AlreadyHeld, NotHeld, Full, ListTooShort}
+use Rattle.ledger.specs.declared.Answer.the-variants.{Accepted, Listed, BadTime, BadNumber, AlreadyHeld, NotHeld, ListTooShort}
 
 abbrev pub sent : ℕ → ℕ → ℕ → ℕ → ℤ → ℤ → Report
 sent id t x y vx vy = record { id = pos id; t = pos t; x = pos x; y = pos y; vx = vx; vy = vy }

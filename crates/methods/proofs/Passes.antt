@@ -8,7 +8,7 @@ use native.Mathlib.Decide.{decLe}
 use native.Mathlib.Omega.{arith}
 use Rattle.grid.specs.Curve.{cell}
 use Rattle.grid.specs.declared.Cell.{Cell}
-use Rattle.methods.specs.Reach.{rowsOf, cellsOfRow, cellsOfRows, cellsOf}
+use Rattle.methods.specs.Reach.{cellsOfRow, cellsOfRows, cellsOf}
 use Rattle.methods.specs.declared.Block.{Block}
 
 -- ---- a row of cells

@@ -1,7 +1,7 @@
 -- P1 to P11 hold of the definitions jointly: one tabled fact, which antt computes.
 -- Assumes nothing.
 use mathlib.Core.Path.{_≡_, refl}
-use mathlib.Core.List.{List, map}
+use mathlib.Core.List.{map}
 use Rattle.ints.specs.Whole.{minZ, maxZ, eqZ}
 use Rattle.grid.specs.Places.{columnOf, cellSpan}
 use Rattle.grid.specs.Curve.{numberAt}

@@ -9,7 +9,6 @@ use lib.ListN.{length}
 use Rattle.grid.specs.Places.{cellOf}
 use Rattle.grid.specs.Sightings.{Sighting}
 use Rattle.grid.specs.Sightings as Grid
-use Rattle.grid.specs.declared.Cell.{Cell}
 use Rattle.rows.specs.Row.{emptyRow, widened}
 use Rattle.methods.specs.Methods.{Rows, Choice, choice}
 use Rattle.grid.specs.declared.Rect.{Rect}

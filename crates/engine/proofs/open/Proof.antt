@@ -3,23 +3,15 @@
 use mathlib.Core.Path.{_≡_, refl, sym, ap, _∙_}
 use borrow.Author.Needs.{needs}
 use borrow.Author.Tests.{not-true, not-false}
-use mir.Syntax.{w32, w64}
-use Rattle.ints.proofs.Machine.{held, tested₁, tested₂}
-use native.Mathlib.Omega.{arith}
-use mathlib.Core.Bool.{Bool, true, false}
-use mathlib.Core.List.{List, [], _∷_}
-use Prim.Native.Nat.{suc}
+use mir.Syntax.{w32}
+use Rattle.ints.proofs.Machine.{held, tested₁}
+use mathlib.Core.Bool.{true, false}
+use mathlib.Core.List.{[], _∷_}
 use lib.IntN.{ℤ}
-use lib.ListN.{length}
-use Rattle.ledger.specs.Refusals.{Check, check, firstToFail, badTime, badStepTime, badReport, badId}
-use Rattle.ledger.specs.declared.Answer.{Answer}
-use Rattle.ledger.specs.declared.Answer.the-variants.{Accepted, WrongLength, Unsound, BadTime, BadNumber, AlreadyHeld, NotHeld, Full}
+use Rattle.ledger.specs.Refusals.{check, badTime}
+use Rattle.ledger.specs.declared.Answer.the-variants.{Accepted, WrongLength, BadTime}
 use Rattle.ledger.specs.Answers.{isAccepted}
-use Rattle.records.specs.Records.{nowOf, recordsOf, storeOf}
-use Rattle.records.specs.Order.{hasId}
-use Rattle.store.specs.Changes.{inserted, removed, placedIn}
-use Rattle.rows.specs.Phases.{phaseOf}
-use Rattle.grid.specs.Units.{capacity}
+use Rattle.records.specs.Records.{storeOf}
 use Rattle.engine.specs.Index.{openAnswer, openOut, wrongLength}
 use Rattle.engine.proofs.CallLaws.{gives-refused, gives-done, right-lengths}
 use Rattle.engine.proofs.CheckLaws.{accepted-passed}

@@ -2,7 +2,6 @@
 -- Assumes nothing.
 use mathlib.Core.Path.{_∙_}
 use borrow.Author.Needs.{needs}
-use native.Mathlib.Omega.{arith}
 use Rattle.grid.proofs.number_in.Statement.{statement}
 use Rattle.grid.proofs.number_in.Tie as tie
 

@@ -8,7 +8,7 @@ use mir.Syntax.{w32, w64}
 use mir.Val.{SFits}
 use mir.Facts.{toZ-ofZ}
 use Rattle.ints.proofs.Parts.{abs, one-part, sub}
-use Rattle.ints.proofs.Machine.{back, called₁, fits, held, known}
+use Rattle.ints.proofs.Machine.{back, called₁, fits, held}
 use Rattle.grid.proofs.position_at.Statement.{statement}
 use Rattle.grid.proofs.position_at.Tie as tie
 

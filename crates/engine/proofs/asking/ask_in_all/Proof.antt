@@ -1,6 +1,6 @@
 -- `engine::asking::ask_in_all` meets its contract: one, two or three live phases, newest first.
 -- Assumes nothing.
-use mathlib.Core.Path.{_≡_, refl, sym, ap, _∙_}
+use mathlib.Core.Path.{_≡_, sym, ap, _∙_}
 use borrow.Author.Needs.{needs}
 use mir.Syntax.{w32, w64}
 use Rattle.ints.proofs.Machine.{back, held, tested₁}
@@ -8,7 +8,6 @@ use native.Mathlib.Omega.{arith}
 use mathlib.Core.Bool.{true}
 use mathlib.Core.List.{List}
 use Prim.Native.Nat.{ℕ, _-_}
-use lib.IntN.{ℤ}
 use lib.ListN.{length}
 use Rattle.ints.specs.Whole.{up}
 use Rattle.rows.specs.Phases.{phaseOf, isLive, livePhases}

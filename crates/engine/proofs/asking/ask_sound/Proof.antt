@@ -1,8 +1,8 @@
 -- `engine::asking::ask_sound` meets its contract: no id is marked at first.
 -- Assumes nothing.
-use mathlib.Core.Path.{_≡_, refl, sym, ap, _∙_}
+use mathlib.Core.Path.{refl}
 use borrow.Author.Needs.{needs}
-use mir.Syntax.{w32, w64}
+use mir.Syntax.{w32}
 use Rattle.ints.proofs.Machine.{held}
 use Rattle.engine.specs.Gives.{noIds}
 use Rattle.engine.proofs.asking.ask_sound.Statement.{statement}

@@ -1,8 +1,8 @@
 -- `engine::asking::ask_with` meets its contract: the ids are written where there is room for them.
 -- Assumes nothing.
-use mathlib.Core.Path.{_≡_, refl, sym, ap, _∙_}
+use mathlib.Core.Path.{ap, _∙_}
 use borrow.Author.Needs.{needs}
-use mir.Syntax.{w32, w64}
+use mir.Syntax.{w32}
 use Rattle.ints.proofs.Machine.{held}
 use lib.ListN.{length}
 use Rattle.ints.specs.Whole.{up}

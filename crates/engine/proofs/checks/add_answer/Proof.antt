@@ -1,10 +1,10 @@
 -- `engine::checks::add_answer` meets its contract: each check in its turn; the floats held are the records.
 -- Assumes nothing.
-use mathlib.Core.Path.{_≡_, refl, sym, ap, _∙_}
+use mathlib.Core.Path.{_≡_, sym, ap, _∙_}
 use borrow.Author.Needs.{needs}
 use native.Mathlib.Omega.{arith}
-use mir.Syntax.{w32, w64}
-use mathlib.Core.Bool.{Bool, true, false, not}
+use mir.Syntax.{w32}
+use mathlib.Core.Bool.{not}
 use lib.IntN.{ℤ}
 use lib.ListN.{length}
 use native.Mathlib.Numerals.{add-one}

@@ -1,14 +1,13 @@
 -- `engine::checks::ask_refusal` meets its contract: the time first, then the numbers.
 -- Assumes nothing.
-use mathlib.Core.Path.{_≡_, refl, sym, ap, _∙_}
+use mathlib.Core.Path.{_≡_, refl, sym, _∙_}
 use borrow.Author.Needs.{needs}
 use native.Mathlib.Omega.{arith}
-use mir.Syntax.{w32, w64}
-use mathlib.Core.Bool.{Bool, true, false, not}
+use mir.Syntax.{w32}
 use lib.IntN.{ℤ}
-use Rattle.ledger.specs.declared.Answer.the-variants.{Accepted, BadTime, BadNumber}
+use Rattle.ledger.specs.declared.Answer.the-variants.{BadTime, BadNumber}
 use Rattle.ledger.specs.Refusals.{badAskTime, badAsk}
-use Rattle.records.specs.Records.{nowOf, recordsOf}
+use Rattle.records.specs.Records.{nowOf}
 use Rattle.ints.proofs.Machine.{tested₁}
 use Rattle.engine.proofs.CheckLaws.{fails, passes, accepts, store-words-of}
 use Rattle.engine.proofs.checks.ask_refusal.Statement.{statement}

@@ -1,11 +1,11 @@
 -- `engine::checks::bad_ask` meets its contract: the method first, then the rectangle.
 -- Assumes nothing.
-use mathlib.Core.Path.{_≡_, refl, sym, ap, _∙_}
+use mathlib.Core.Path.{sym, ap, _∙_}
 use borrow.Author.Needs.{needs}
 use borrow.Author.Tests.{not-true, not-false}
-use mir.Syntax.{w32, w64}
+use mir.Syntax.{w32}
 use Rattle.ints.proofs.Machine.{tested₁}
-use mathlib.Core.Bool.{Bool, not}
+use mathlib.Core.Bool.{not}
 use lib.IntN.{pos}
 use Rattle.ints.specs.Whole.{between}
 use Rattle.engine.proofs.checks.bad_ask.Statement.{statement}

@@ -1,10 +1,10 @@
 -- `engine::checks::bad_ask_time` meets its contract: the range of the time first, then how near it is.
 -- Assumes nothing.
-use mathlib.Core.Path.{_≡_, refl, sym, ap, _∙_}
+use mathlib.Core.Path.{_≡_, sym, ap, _∙_}
 use borrow.Author.Needs.{needs}
 use borrow.Author.Tests.{not-true, not-false}
 use mir.Syntax.{w32, w64}
-use mathlib.Core.Bool.{Bool, not}
+use mathlib.Core.Bool.{not}
 use lib.IntN.{pos, _+ℤ_, _-ℤ_}
 use lib.ListN.{getD}
 use Rattle.ints.proofs.Machine.{tested₁, held}

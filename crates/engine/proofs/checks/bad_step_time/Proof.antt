@@ -1,9 +1,9 @@
 -- `engine::checks::bad_step_time` meets its contract: the range of the time first, then the time of the store.
 -- Assumes nothing.
-use mathlib.Core.Path.{_≡_, refl, sym, ap, _∙_}
+use mathlib.Core.Path.{sym, _∙_}
 use borrow.Author.Needs.{needs}
 use borrow.Author.Tests.{not-true, not-false}
-use mir.Syntax.{w32, w64}
+use mir.Syntax.{w32}
 use lib.IntN.{pos}
 use lib.ListN.{getD}
 use Rattle.ints.proofs.Machine.{tested₁, held}

@@ -1,12 +1,12 @@
 -- `engine::checks::clock_answer` meets its contract: the time first; the floats held are the records.
 -- Assumes nothing.
-use mathlib.Core.Path.{_≡_, refl, sym, ap, _∙_}
+use mathlib.Core.Path.{sym, ap, _∙_}
 use borrow.Author.Needs.{needs}
 use native.Mathlib.Omega.{arith}
-use mir.Syntax.{w32, w64}
+use mir.Syntax.{w32}
 use Rattle.ledger.specs.declared.Answer.the-variants.{Accepted, BadTime}
-use Rattle.ledger.specs.Refusals.{badStepTime, badAskTime, badAsk, badReport, badId}
-use Rattle.records.specs.Records.{nowOf, recordsOf}
+use Rattle.ledger.specs.Refusals.{badStepTime}
+use Rattle.records.specs.Records.{nowOf}
 use Rattle.records.proofs.RecordLaws.{held-records}
 use Rattle.ints.proofs.Machine.{tested₁}
 use Rattle.engine.proofs.CheckLaws.{fails, passes, accepts, store-words-of}

@@ -1,11 +1,11 @@
 -- `engine::checks::drop_answer` meets its contract: each check in its turn; one float fewer is left.
 -- Assumes nothing.
-use mathlib.Core.Path.{_≡_, refl, sym, ap, _∙_}
+use mathlib.Core.Path.{_≡_, sym, ap, _∙_}
 use borrow.Author.Needs.{needs}
-use borrow.Author.Tests.{not-true, not-false}
+use borrow.Author.Tests.{not-false}
 use native.Mathlib.Omega.{arith}
-use mir.Syntax.{w32, w64}
-use mathlib.Core.Bool.{Bool, true, not}
+use mir.Syntax.{w32}
+use mathlib.Core.Bool.{not}
 use lib.IntN.{ℤ}
 use lib.ListN.{length}
 use Prim.Native.Nat.{ℕ, suc, _-_}

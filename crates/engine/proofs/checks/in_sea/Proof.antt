@@ -1,7 +1,7 @@
 -- `engine::checks::in_sea` meets its contract: both ends are positions.
 -- Assumes nothing.
 use borrow.Author.Needs.{needs}
-use mir.Syntax.{w32, w64}
+use mir.Syntax.{w64}
 use Rattle.ints.proofs.Machine.{both, neither, tested₁}
 use Rattle.grid.specs.Reports.{isPosition}
 use Rattle.engine.proofs.checks.in_sea.Statement.{statement}

@@ -1,14 +1,13 @@
 -- `engine::checks::is_near` meets its contract: neither the difference nor the sum wraps.
 -- Assumes nothing.
-use mathlib.Core.Path.{_≡_, refl, sym, ap, _∙_}
+use mathlib.Core.Path.{sym, _∙_}
 use native.Mathlib.Omega.{arith}
-use lib.IntN.{ℤ, pos, _+ℤ_, _-ℤ_}
-use mir.Syntax.{w32, w64}
+use lib.IntN.{pos, _+ℤ_, _-ℤ_}
+use mir.Syntax.{w64}
 use mir.Val.{SFits}
 use mir.Facts.{toZ-ofZ}
 use Rattle.ints.proofs.Parts.{abs, add, sub}
-use Rattle.ints.proofs.Machine.{fits, held}
-use borrow.Author.Needs.{needs}
+use Rattle.ints.proofs.Machine.{fits}
 use Rattle.engine.proofs.checks.is_near.Statement.{statement}
 use Rattle.engine.proofs.checks.is_near.Tie as tie
 

@@ -1,6 +1,6 @@
 -- `engine::checks::is_rectangle` meets its contract: each axis in the sea, and then the order.
 -- Assumes nothing.
-use mathlib.Core.Path.{_≡_, refl, sym, ap, _∙_}
+use mathlib.Core.Path.{sym, _∙_}
 use borrow.Author.Needs.{needs}
 use borrow.Author.Tests.{not-true, not-false}
 use Rattle.ledger.specs.Refusals.{isRectangle}

@@ -1,9 +1,8 @@
 -- `engine::checks::lent_answer` meets its contract: the lengths first, then soundness.
 -- Assumes nothing.
-use mathlib.Core.Path.{_≡_, refl, sym, ap, _∙_}
+use mathlib.Core.Path.{refl, sym, ap, _∙_}
 use borrow.Author.Needs.{needs}
-use borrow.Author.Tests.{not-true, not-false}
-use Rattle.ledger.specs.declared.Answer.the-variants.{Accepted, WrongLength, Unsound}
+use Rattle.ledger.specs.declared.Answer.the-variants.{WrongLength, Unsound}
 use mathlib.Core.Bool.{not}
 use Rattle.engine.proofs.CheckLaws.{fails, passes, accepts}
 use Rattle.engine.proofs.checks.lent_answer.Statement.{statement}

@@ -1,10 +1,9 @@
 -- `engine::checks::open_answer` meets its contract: the lengths first, then the time.
 -- Assumes nothing.
-use mathlib.Core.Path.{_≡_, refl, sym, ap, _∙_}
+use mathlib.Core.Path.{refl, sym, ap, _∙_}
 use borrow.Author.Needs.{needs}
-use borrow.Author.Tests.{not-true, not-false}
-use Rattle.ledger.specs.declared.Answer.the-variants.{Accepted, WrongLength, BadTime}
-use mir.Syntax.{w32, w64}
+use Rattle.ledger.specs.declared.Answer.the-variants.{WrongLength, BadTime}
+use mir.Syntax.{w32}
 use Rattle.ints.proofs.Machine.{tested₁}
 use mathlib.Core.Bool.{not}
 use Rattle.grid.specs.Reports.{isTime}

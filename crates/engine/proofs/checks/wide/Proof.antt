@@ -1,10 +1,8 @@
 -- `engine::checks::wide` meets its contract: every 32-bit number fits 64 bits.
 -- Assumes nothing.
-use mathlib.Core.Path.{_≡_, refl, sym, ap, _∙_}
 use native.Mathlib.Omega.{arith}
 use mir.Syntax.{w32, w64}
 use Rattle.ints.proofs.Machine.{wide-fits, wide-back, known}
-use borrow.Author.Needs.{needs}
 use Rattle.engine.proofs.checks.wide.Statement.{statement}
 use Rattle.engine.proofs.checks.wide.Tie as tie
 

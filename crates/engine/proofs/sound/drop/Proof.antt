@@ -12,7 +12,7 @@ use lib.ListN.{length}
 use Rattle.ledger.specs.Refusals.{check, firstToFail, badId}
 use Rattle.ledger.specs.declared.Answer.the-variants.{Accepted, BadNumber, NotHeld}
 use Rattle.ledger.specs.Answers.{isAccepted}
-use Rattle.records.specs.Records.{nowOf, recordsOf, storeOf}
+use Rattle.records.specs.Records.{recordsOf}
 use Rattle.records.specs.Order.{hasId}
 use Rattle.store.specs.Changes.{removed}
 use mathlib.Core.Bool.{not}

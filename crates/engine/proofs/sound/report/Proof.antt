@@ -7,14 +7,12 @@ use mir.Syntax.{w32}
 use Rattle.ints.proofs.Machine.{held}
 use mathlib.Core.Bool.{true}
 use mathlib.Core.List.{[], _∷_}
-use lib.IntN.{ℤ}
 use lib.ListN.{length}
 use Rattle.ledger.specs.Refusals.{check, firstToFail, badReport}
 use Rattle.ledger.specs.declared.Answer.the-variants.{Accepted, BadNumber, NotHeld}
 use Rattle.ledger.specs.Answers.{isAccepted}
-use Rattle.records.specs.Records.{nowOf, recordsOf, storeOf}
+use Rattle.records.specs.Records.{recordsOf}
 use Rattle.records.specs.Order.{hasId}
-use Rattle.store.specs.Changes.{removed}
 use mathlib.Core.Bool.{not}
 use Rattle.rows.specs.Table.{tableWords}
 use Rattle.grid.specs.Reports.{inRange}

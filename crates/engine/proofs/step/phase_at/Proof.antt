@@ -1,6 +1,6 @@
 -- `engine::step::phase_at` meets its contract: the phase of the same time.
 -- Assumes nothing.
-use mathlib.Core.Path.{_≡_, refl, sym, ap, _∙_}
+use mathlib.Core.Path.{ap, _∙_}
 use borrow.Author.Needs.{needs}
 use mir.Syntax.{w32, w64}
 use Rattle.ints.proofs.Machine.{tested₁, held}

@@ -1,17 +1,15 @@
 -- `engine::step::place` meets its contract: the record put in, the row widened.
 -- Assumes nothing.
-use mathlib.Core.Path.{_≡_, refl, sym, ap, _∙_}
+use mathlib.Core.Path.{_≡_, ap, _∙_}
 use borrow.Author.Needs.{needs}
-use mir.Syntax.{w32, w64}
+use mir.Syntax.{w32}
 use Rattle.ints.proofs.Machine.{tested₁}
 use mathlib.Core.Bool.{true}
-use lib.IntN.{ℤ}
 use Rattle.rows.specs.Phases.{phaseOf}
 use Rattle.records.specs.Records.{nowOf, recordsOf, storeOf}
 use Rattle.records.specs.Soundness.{isRanged}
 use Rattle.store.specs.Changes.{inserted, placedIn}
 use Rattle.records.specs.declared.Record.{Record}
-use Rattle.grid.specs.declared.Report.{Report}
 use Prim.Native.Nat.{ℕ}
 use Rattle.records.proofs.SoundLawsRanges.{last-phase, parts-ranged}
 use Rattle.records.proofs.SoundLawsKeys.{key-in-below}

@@ -1,16 +1,14 @@
 -- `engine::step::step` meets its contract: in the same phase only the time changes.
 -- Assumes nothing.
-use mathlib.Core.Path.{_≡_, refl, sym, ap, _∙_}
+use mathlib.Core.Path.{_≡_, ap, _∙_}
 use borrow.Author.Needs.{needs}
 use mir.Syntax.{w32, w64}
 use native.Mathlib.Omega.{arith}
 use Rattle.ints.proofs.Machine.{tested₁, held}
-use mathlib.Core.List.{List}
 use lib.IntN.{ℤ}
-use Prim.Native.Nat.{ℕ}
 use Rattle.rows.specs.Phases.{phaseOf}
 use Rattle.records.specs.Records.{nowOf, recordsOf, storeOf}
-use Rattle.engine.specs.Gives.{CanMove, Moved}
+use Rattle.engine.specs.Gives.{Moved}
 use Rattle.engine.proofs.CheckLaws.{store-words-of}
 use Rattle.engine.proofs.StepLaws.{is-store, same-step, can-move, moved-store, later-step}
 use Rattle.engine.proofs.step.step.Statement.{statement}

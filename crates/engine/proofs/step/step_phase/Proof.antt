@@ -1,6 +1,6 @@
 -- `engine::step::step_phase` meets its contract: first the newly live phases are emptied, then the records move.
 -- Assumes nothing.
-use mathlib.Core.Path.{_≡_, refl, sym, ap, _∙_}
+use mathlib.Core.Path.{ap, _∙_}
 use borrow.Author.Needs.{needs}
 use mathlib.Core.List.{List}
 use lib.IntN.{ℤ}

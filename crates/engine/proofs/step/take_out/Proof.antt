@@ -1,7 +1,6 @@
 -- `engine::step::take_out` meets its contract: the record goes and the table stays.
 -- Assumes nothing.
 use borrow.Author.Needs.{needs}
-use mir.Syntax.{w32}
 use Rattle.engine.proofs.CallLaws.{taken-out}
 use Rattle.engine.proofs.step.take_out.Statement.{statement}
 use Rattle.engine.proofs.step.take_out.Tie as tie

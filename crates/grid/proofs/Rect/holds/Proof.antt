@@ -1,7 +1,6 @@
 -- `grid::Rect::holds` meets its contract: both axes' tests.
 -- Assumes nothing.
 use borrow.Author.Needs.{needs}
-use lib.IntN.{ℤ}
 use mir.Syntax.{w64}
 use Rattle.ints.specs.Whole.{between}
 use Rattle.ints.proofs.Machine.{both, neither, tested₁}

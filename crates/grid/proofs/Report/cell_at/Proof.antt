@@ -3,7 +3,7 @@
 use mathlib.Core.Path.{_∙_}
 use borrow.Author.Needs.{needs}
 use mir.Syntax.{w64}
-use Rattle.ints.proofs.Machine.{held, tested₁, tested₂}
+use Rattle.ints.proofs.Machine.{tested₁, tested₂}
 use Rattle.grid.specs.Places.{cellOf}
 use Rattle.grid.specs.Reports.{xAt, yAt}
 use Rattle.grid.proofs.Report.cell_at.Statement.{statement}

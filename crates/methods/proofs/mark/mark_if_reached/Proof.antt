@@ -1,6 +1,6 @@
 -- `methods::mark::mark_if_reached` meets its contract: a list of one cell keeps it or not.
 -- Assumes nothing.
-use mathlib.Core.Path.{_≡_, refl, sym, _∙_}
+use mathlib.Core.Path.{_≡_, sym, _∙_}
 use lib.IntN.{ℤ}
 use borrow.Author.Tests.{not-true, not-false}
 use denote.Ref.{now}

@@ -1,7 +1,7 @@
 -- `methods::mark::mark_row` meets its contract. The invariant: the cells from `column` on are left to mark. The measure is how many they
 -- are.
 -- Assumes nothing.
-use mathlib.Core.Path.{_≡_, refl}
+use mathlib.Core.Path.{_≡_}
 use mathlib.Core.List.{[], _∷_}
 use Prim.Native.Nat.{_+_, _-_}
 use native.Mathlib.Omega.{arith}
