@@ -12,8 +12,8 @@ use lib.Signed.{leZ}
 use borrow.Author.Tests.{eqb-true, eq-eqb, not-false}
 use Rattle.ints.specs.Whole.{between}
 use Rattle.ints.proofs.Parts.{signed, add, sub, le-true}
-use Rattle.ints.proofs.Truth.{same-truth, and-true, and-left, and-right}
-use Rattle.ints.proofs.Members.{or-false-right, passing, passing-same}
+use Rattle.ints.proofs.Truth.{same-truth, and-true, and-left, and-right, or-neither}
+use Rattle.ints.proofs.Members.{passing, passing-same}
 use Rattle.grid.specs.Units.{cells}
 use Rattle.grid.specs.Places.{OnGrid, positionAfter}
 use Rattle.grid.specs.Curve.{curveNumber}
@@ -58,7 +58,7 @@ unfolding isRectangle
 fit-ask now method asked q h k =
     let low = now -ℤ pos 3600 in
     let high = now +ℤ pos 7200 in
-    let times = not-false (between low high asked) (or-false-right (not (isTime asked)) (not (between low high asked)) h) in
+    let times = not-false (between low high asked) (or-neither (not (isTime asked)) (not (between low high asked)) h .1) in
     let ordered = leZ (q .x .low) (q .x .high) && leZ (q .y .low) (q .y .high) in
     let corners = (isPosition (q .x .low) && isPosition (q .x .high)) && (isPosition (q .y .low) && isPosition (q .y .high)) in
     let number = between (pos 0) (pos 3) method in

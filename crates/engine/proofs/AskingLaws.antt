@@ -1,7 +1,7 @@
 -- What a sound index and an ask with good numbers give the functions that choose and read, and bounds on what these count.
 -- Assumes nothing.
 use mathlib.Core.Path.{_≡_, refl, sym, ap, _∙_}
-use mathlib.Core.Bool.{Bool, true, false, _&&_, _||_, not, cond}
+use mathlib.Core.Bool.{Bool, true, false, _&&_, not, cond}
 use mathlib.Core.List.{List, [], _∷_, _++_}
 use Prim.Native.Nat.{ℕ, zero, suc, _+_, _-_, _≤_, _<_, _^_}
 use native.Mathlib.Omega.{arith}
@@ -12,7 +12,7 @@ use lib.ListN.{length, drop, length-replicate}
 use lib.Signed.{leZ}
 use Rattle.ints.specs.Whole.{up, between}
 use Rattle.ints.proofs.Parts.{abs, one-part}
-use Rattle.ints.proofs.Truth.{and-left, and-right}
+use Rattle.ints.proofs.Truth.{and-left, and-right, or-neither}
 use Rattle.grid.specs.Reports.{isTime, isPosition}
 use Rattle.grid.specs.declared.Rect.{Rect}
 use Rattle.rows.specs.Row.{emptyRow, isEmpty, sameRow}
@@ -28,7 +28,7 @@ use Rattle.methods.proofs.Rounds.{none-is, same-is, onward-is}
 use Rattle.records.specs.Records.{storeWords, nowOf, recordsOf}
 use Rattle.rows.specs.Table.{tableWords}
 use Rattle.records.specs.Soundness.{IsStore}
-use Rattle.reading.specs.Reading.{ReadingOf, SmallReading, inSet, hasKey, listedIn, isRead, cellsIn, usefulIn, withIds, rising}
+use Rattle.reading.specs.Reading.{ReadingOf, SmallReading, hasKey, listedIn, isRead, cellsIn, usefulIn, withIds, rising}
 use Rattle.records.specs.declared.Record.{Record}
 use Rattle.reading.specs.declared.Reading.{Reading}
 use Rattle.records.proofs.SoundLaws as Sound
@@ -46,10 +46,7 @@ use Rattle.engine.specs.Counted.{CanChoose, CanRead, ReadIn, SmallCounts
 use Rattle.engine.specs.declared.asking.Counts.{Counts}
 use Rattle.grid.specs.Units.{cells}
 use Rattle.engine.proofs.AskLaws.{fit-ask, asked-in}
-
-or-none : (a b : Bool) → a || b ≡ false → a ≡ false
-or-none true b h = h
-or-none false b h = refl
+use Rattle.reading.proofs.ReadingLaws.{cells-few}
 
 module _ (s t : List ℤ) (method asked : ℤ) (q : Rect) (can : CanAsk s t method asked q) where
   parts : Sound.Sound s t
@@ -59,7 +56,7 @@ module _ (s t : List ℤ) (method asked : ℤ) (q : Rect) (can : CanAsk s t meth
   ask-store = Sound.is-store s (parts .store)
 
   ask-time : isTime asked ≡ true
-  ask-time = not-false (isTime asked) (or-none (not (isTime asked)) _ (can .good-time))
+  ask-time = not-false (isTime asked) (or-neither (not (isTime asked)) _ (can .good-time) .0)
 
   numbers : between (pos 0) (pos 3) method && isRectangle q ≡ true
   numbers = not-false _ (can .good-numbers)
@@ -130,11 +127,6 @@ one-at-most : (b : Bool) (m n : ℕ) → m ≤ n → cond b 1 0 + m ≤ suc n
 one-at-most true m n h = omega arith
 one-at-most false m n h = omega arith
 
-pub few-cells : (marks : List ℕ) (number n : ℕ) → cellsIn marks number n ≤ n
-unfolding cellsIn
-few-cells marks number zero = omega arith
-few-cells marks number (suc n) = one-at-most (inSet marks number) _ n (few-cells marks (suc number) n)
-
 pub few-useful : (slot : ℕ) (listed : List Record) (number n : ℕ) → usefulIn slot listed number n ≤ n
 unfolding usefulIn
 few-useful slot listed number zero = omega arith
@@ -169,7 +161,7 @@ module _ (s t : List ℤ) (method : ℕ) (asked : ℤ) (q : Rect) (p : ℕ) (sto
     small-reading : SmallReading 65536 r
     small-reading = record {
       few-listed = let h = few-listed marks (slotOf p) q asked (recordsOf s) in let k = store .few in let e = read .listed-are in omega arith;
-      few-cells = let h = few-cells marks 0 cells in let e = read .cells-are in omega arith;
+      few-cells = let h = cells-few marks 0 cells in let e = read .cells-are in omega arith;
       few-useful = let h = few-useful (slotOf p) (listedIn marks (slotOf p) q asked (recordsOf s)) 0 cells in let e = read .useful-are in omega arith;
     }
 

@@ -2,7 +2,7 @@
 -- those of a store.
 -- Assumes nothing.
 use mathlib.Core.Path.{_≡_, refl, sym, ap, ap₂, subst, _∙_}
-use mathlib.Core.Bool.{Bool, true, false, _||_, not, cond}
+use mathlib.Core.Bool.{Bool, true, false, not, cond}
 use mathlib.Core.List.{List, [], _∷_}
 use Prim.Native.Nat.{ℕ, suc, _≤_, _<_, _^_}
 use native.Mathlib.Omega.{arith}
@@ -15,7 +15,7 @@ use mir.Val.{hbits}
 use borrow.Author.Tests.{eqb-true, leb-false, not-false}
 use Rattle.ints.proofs.Machine.{back, held}
 use Rattle.ints.proofs.Parts.{signed, true-false}
-use Rattle.ints.proofs.Truth.{and-left, and-right}
+use Rattle.ints.proofs.Truth.{and-left, and-right, or-neither}
 use Rattle.grid.specs.Units.{capacity}
 use Rattle.grid.specs.Reports.{isTime, inRange}
 use Rattle.grid.specs.declared.Rect.{Rect}
@@ -65,10 +65,6 @@ pub right-lengths : (s t : List ℤ) → wrongLength s t ≡ false → (length s
 right-lengths s t h =
     let b = not-false _ h in
     (eqb-true (length s) storeWords (and-left (eqb (length s) storeWords) (eqb (length t) tableWords) b), eqb-true (length t) tableWords (and-right (eqb (length s) storeWords) (eqb (length t) tableWords) b))
-
-or-neither : (a b : Bool) → a || b ≡ false → (a ≡ false) × (b ≡ false)
-or-neither true b h = absurd (true-false h)
-or-neither false b h = (refl, h)
 
 module _ (s t : List ℤ) (sound : isSound s t ≡ true) (time : ℤ) (more : List Check) (accepted : Answer) (h : isAccepted (firstToFail (check (badStepTime (nowOf s) time) BadTime ∷ more) accepted) ≡ true) where
   passed : (badStepTime (nowOf s) time ≡ false) × (isAccepted (firstToFail more accepted) ≡ true)

@@ -27,8 +27,9 @@ use Rattle.ledger.specs.Machine.{summed}
 use Rattle.ledger.specs.declared.Answer.{Answer}
 use Rattle.ledger.specs.declared.Answer.the-variants.{Accepted, Listed, WrongLength, Unsound, BadTime, BadNumber, AlreadyHeld, NotHeld, Full, ListTooShort}
 use Rattle.engine.specs.Index.{wrongLength, lentChecks, clockChecks, addChecks, reportChecks, dropChecks, settled, openOut, clockOut, addOut, reportOut, dropOut, askOut, askAnswer, recordsAfterStep, choiceOf, marksIn, listedOf, phasesNow, idsNeeded, cellsCounted, usefulCounted, roundsCounted}
-use Rattle.engine.proofs.AskingLaws.{few-listed, few-cells, few-useful, few-rounds}
+use Rattle.engine.proofs.AskingLaws.{few-listed, few-useful, few-rounds}
 use Rattle.engine.proofs.CheckLaws.{sound-is-store}
+use Rattle.reading.proofs.ReadingLaws.{cells-few}
 
 -- the most that any number of an answer is
 abbrev pub most : ℕ
@@ -154,7 +155,7 @@ module _ (s t : List ℤ) (sound : isSound s t ≡ true) where
     read : cellsCounted s t method asked q ≤ most
     unfolding cellsCounted
     read =
-        let k = few-summed (λ p. cellsIn (marksIn s t method asked q p) 0 cells) capacity (λ p. few-cells (marksIn s t method asked q p) 0 cells) (phasesNow s t method asked q) in
+        let k = few-summed (λ p. cellsIn (marksIn s t method asked q p) 0 cells) capacity (λ p. cells-few (marksIn s t method asked q p) 0 cells) (phasesNow s t method asked q) in
         let n = few-phases (phaseOf (nowOf s)) in
         omega arith
 

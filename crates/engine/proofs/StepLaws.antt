@@ -7,13 +7,11 @@ use Prim.Native.Nat.{ℕ, _≤_}
 use native.Mathlib.Omega.{arith}
 use lib.IntN.{ℤ}
 use lib.ListN.{length}
-use lib.Signed.{leZ}
 use borrow.Author.Tests.{le-ltb}
-use Rattle.ints.proofs.Parts.{le-true, one-part}
 use Rattle.grid.specs.Units.{capacity}
 use Rattle.rows.specs.Phases.{phaseOf, livePhases}
 use Rattle.rows.specs.Table.{withLaterEmpty, withNewlyLiveEmpty}
-use Rattle.rows.proofs.PhaseLaws.{phase-is, live-range, listed-live}
+use Rattle.rows.proofs.PhaseLaws.{live-range, listed-live, phases-grow}
 use Rattle.records.specs.Records.{nowOf, recordsOf, storeOf}
 use Rattle.records.specs.Order.{isSorted}
 use Rattle.records.specs.Soundness.{allRanged, IsStore}
@@ -53,9 +51,6 @@ module _ (c : ℕ) where
   unfolding withLaterEmpty
   nothing-new t [] h = refl
   nothing-new t (p ∷ ps) h = rw (le-ltb c p (h p (List·Memᴰ·head refl))) (nothing-new t ps (λ x m. h x (List·Memᴰ·tail m)))
-
-phases-grow : (a b : ℤ) → leZ a b ≡ true → phaseOf a ≤ phaseOf b
-phases-grow a b h = omega (arith, le-true a b h, phase-is a, phase-is b, one-part a, one-part b)
 
 module _ (s t : List ℤ) (time : ℤ) (can : CanStep s t time) where
   is-sound : Sound.Sound s t

@@ -4,7 +4,7 @@ use mathlib.Core.Path.{_≡_, refl, sym, ap, _∙_, subst}
 use mathlib.Core.Bool.{Bool, true, false, cond}
 use mathlib.Core.List.{List, [], _∷_, _++_, List·Memᴰ, List·Memᴰ·head, List·Memᴰ·cases-cons, List·Memᴰ·not-nil, List·Memᴰ·append-cases, List·Memᴰ·eq-of-singleton, Memᴰ·append-left, Memᴰ·append-right}
 use mathlib.Core.Logic.{⊎-elim}
-use Prim.Native.Nat.{ℕ, _≤_, _<_}
+use Prim.Native.Nat.{ℕ, _<_}
 use native.Mathlib.Omega.{arith}
 use lib.Dec.{leb}
 use lib.IntN.{ℤ, pos}
@@ -12,7 +12,6 @@ use lib.ListN.{length}
 use lib.Signed.{leZ}
 use borrow.Author.Tests.{le-leb}
 use Rattle.ints.specs.Whole.{eqZ, between}
-use Rattle.ints.proofs.Parts.{one-part, le-true}
 use Rattle.ints.proofs.Least.{le-trans}
 use Rattle.ints.proofs.Truth.{and-true, and-left, and-right}
 use Rattle.ints.proofs.Same.{same-is}
@@ -21,7 +20,7 @@ use Rattle.grid.specs.Reports.{isTime, inRange, xAt, yAt}
 use Rattle.grid.specs.declared.Report.{Report}
 use Rattle.grid.proofs.Places.{cell-on}
 use Rattle.rows.specs.Phases.{phaseOf, referenceTime, isLive}
-use Rattle.rows.proofs.PhaseLaws.{phase-is, range-live}
+use Rattle.rows.proofs.PhaseLaws.{range-live, phases-grow}
 use Rattle.records.proofs.SoundLawsRanges.{ranges}
 use Rattle.ledger.specs.Machine.{Ledger, Held, Placement, placement, opened, isHeld, without, steppedHeld, newPlacements, livePlacements, stepped, withReport, withoutId}
 use Rattle.ledger.proofs.MachineLaws.{steppedOne, same-report, stepped-length, stepped-held, stepped-from, without-member, without-few, without-held, live-from, live-stays, new-from, new-placed}
@@ -41,9 +40,6 @@ opened-good time h =
 
 -- ---- times and phases
 
-pub phase-later : (a b : ℤ) → leZ a b ≡ true → phaseOf a ≤ phaseOf b
-phase-later a b h = omega (arith, phase-is a, phase-is b, le-true a b h, one-part a, one-part b)
-
 pub current-live : (c : ℕ) → isLive c c ≡ true
 current-live c = range-live c c (omega arith) (omega arith)
 
@@ -53,7 +49,7 @@ sent-before now later t h b =
 
 -- the phase of the current time is not before that of a report sent by then
 sent-phase : (now t : ℤ) → between (pos 0) now t ≡ true → leb (phaseOf t) (phaseOf now) ≡ true
-sent-phase now t b = le-leb (phaseOf t) (phaseOf now) (phase-later t now (and-right (leZ (pos 0) t) (leZ t now) b))
+sent-phase now t b = le-leb (phaseOf t) (phaseOf now) (phases-grow t now (and-right (leZ (pos 0) t) (leZ t now) b))
 
 -- a report in range placed in the current phase
 pub good-placement : (now : ℤ) (r : Report) → inRange r ≡ true → GoodPlacement now (placement (phaseOf now) r)

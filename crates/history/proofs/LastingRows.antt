@@ -19,7 +19,7 @@ use Rattle.rows.specs.Row.{rowOfSpeed, widened, boundsOf}
 use Rattle.rows.specs.Phases.{slots, phaseOf, isLive, slotOf}
 use Rattle.rows.specs.Table.{tableWords, rowAt, withSpeed, withNewlyLiveEmpty}
 use Rattle.rows.specs.declared.Row.{Row}
-use Rattle.rows.proofs.PhaseLaws.{live-range, range-live, slot-on}
+use Rattle.rows.proofs.PhaseLaws.{live-range, range-live, slot-on, phases-grow}
 use Rattle.rows.proofs.RowLaws.{Within, within-refl, within-trans, within-joined-left, holds-within, bounds-grow}
 use Rattle.rows.proofs.TableLaws.{row-written, row-other, length-with-row, length-newly-live-empty, earlier-live-kept}
 use Rattle.records.specs.Records.{nowOf, recordsOf, storeOf}
@@ -41,7 +41,6 @@ use Rattle.engine.specs.Index.{wrongLength, unsound, lentChecks, settled, table
 use Rattle.engine.proofs.CallLaws.{right-lengths}
 use Rattle.history.specs.Index.{Words, LentCall, clock, add, report, drop, ask, next, after, wordsOf}
 use Rattle.history.specs.Claims.{phaseNow, RowsNeverNarrow, LedgerRowsNeverNarrow}
-use Rattle.history.proofs.GoodKept.{phase-later}
 use Rattle.history.proofs.Steps.{passed, others, step-later}
 
 -- ---- rows of a table that is widened
@@ -126,7 +125,7 @@ module _ (w : Words) (time : ℤ) (sized : length (w .table) ≡ tableWords) (la
   step-lasts : (rs : List Record) (t : List ℤ) → ((slot n : ℕ) → slot < slots → n < cells → Within (rowAt stepTable slot n) (rowAt t slot n)) → Lasts w (record { store = storeOf time rs; table = t })
   step-lasts rs t wider =
       let now = now-of-store time rs in
-      let rises = phase-later (nowOf (w .store)) time later in
+      let rises = phases-grow (nowOf (w .store)) time later in
       record {
         phase-rises = rw now rises;
         keeps = λ p h k n here.
@@ -209,7 +208,7 @@ more-placed p c ps more =
 stepped-lasts : (time : ℤ) (l : Ledger) → leZ (l .now) time ≡ true → LedgerLasts l (stepped time l)
 unfolding stepped rowsIn
 stepped-lasts time l later = record {
-  phase-rises = phase-later (l .now) time later;
+  phase-rises = phases-grow (l .now) time later;
   keeps = λ p h k c.
       subst (λ (rs : List Row). Within (boundsOf rs) (boundsOf (speedsPlaced p c (livePlacements (phaseOf time) (l .placements) ++ newPlacements (phaseOf time) (l .held)))))
       (speeds-live (phaseOf time) p c (l .placements) k)

@@ -26,7 +26,7 @@ use Rattle.rows.specs.Phases.{phaseOf, referenceTime, isLive, slotOf, slots}
 use Rattle.rows.specs.Table.{tableWords, rowAt, withNewlyLiveEmpty}
 use Rattle.rows.specs.declared.Row.{Row}
 use Rattle.rows.proofs.RowLaws.{AllValid, joined-same, speed-ranged, ranged-valid, empty-valid, bounds-valid, bounds-append}
-use Rattle.rows.proofs.PhaseLaws.{live-range, range-live, same-slot, slot-on}
+use Rattle.rows.proofs.PhaseLaws.{live-range, range-live, same-slot, slot-on, phases-grow}
 use Rattle.rows.proofs.TableLaws.{length-newly-live-empty, newly-live-emptied, earlier-live-kept}
 use Rattle.rows.proofs.SlotLaws.{phase-in-slot, slot-cases, other-slot-kept}
 use Rattle.records.specs.Order.{keyIn, slotOfKey, numberOfKey}
@@ -40,7 +40,7 @@ use Rattle.ledger.specs.Machine.{Ledger, Held, Placement, placeIn, placement, n
 use Rattle.ledger.proofs.MachineLaws.{isThere, speeds-append, speeds-live, no-speeds, speed-from}
 use Rattle.history.proofs.Relation.{recordOf, recordsOfHeld, GoodPlacement, Good}
 use Rattle.history.proofs.HeldRecords.{records-from}
-use Rattle.history.proofs.GoodKept.{phase-later, current-live, good-placement, stepped-good}
+use Rattle.history.proofs.GoodKept.{current-live, good-placement, stepped-good}
 
 -- what is said of the table alone
 pub record TableMatches (l : Ledger) (t : List ℤ) : Type 0 where
@@ -156,7 +156,7 @@ module _ (l : Ledger) (t : List ℤ) (time : ℤ) (good : Good l) (table : Table
   anew = replaced c c′ (recordsOfHeld (l .held))
 
   not-earlier : c ≤ c′
-  not-earlier = phase-later (l .now) time later
+  not-earlier = phases-grow (l .now) time later
 
   long : length emptied ≡ tableWords
   long = length-newly-live-empty t c c′ (table .table-long)

@@ -5,7 +5,7 @@ use mathlib.Core.List.{List, _∷_, _++_, append-nil}
 use Prim.Native.Nat.{ℕ, suc, _+_, _-_, _≤_, _<_}
 use native.Mathlib.Numerals.{add-one}
 use native.Mathlib.Omega.{arith}
-use lib.ListN.{length, getD, set, take, drop, length-append, length-drop, length-take, List·getD-append, drop-of-length-le}
+use lib.ListN.{length, getD, set, take, drop, length-drop, length-take, List·getD-append, drop-of-length-le}
 use lib.Seq.{take-suc, drop-cons, getD-take, getD-drop, set-at, length-take-le, take-all, append-snoc, getD-append-add}
 
 module _ {A : Type 0} (d : A) where
@@ -18,9 +18,6 @@ module _ {A : Type 0} (d : A) where
     up-start h =
         let e : length (take (length l - m) l) ≤ length l - m = simp length-take (omega arith) in
         sym (rw (take-all (length l) l (omega arith), drop-of-length-le (take (length l - m) l) e, append-nil l))
-
-    pub up-length : (i : ℕ) → m ≤ i → i ≤ length l → length (movedUp i) ≡ length l
-    up-length i h g = simp (length-append, length-take, length-drop) (omega arith)
 
     pub up-more : (i : ℕ) → m ≤ i → i < length l → set (movedUp (suc i)) i (getD (movedUp (suc i)) (i - m) d) ≡ movedUp i
     up-more i h g =
@@ -50,9 +47,6 @@ module _ {A : Type 0} (d : A) where
   module _ (m : ℕ) (l : List A) where
     abbrev pub movedDown : ℕ → List A
     movedDown i = take i (drop m l) ++ drop i l
-
-    pub down-length : (i : ℕ) → m + i ≤ length l → length (movedDown i) ≡ length l
-    down-length i h = simp (length-append, length-take, length-drop) (omega arith)
 
     pub down-more : (i : ℕ) → m + i < length l → set (movedDown i) i (getD (movedDown i) (i + m) d) ≡ movedDown (i + 1)
     down-more i h =

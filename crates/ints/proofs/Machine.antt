@@ -4,17 +4,16 @@
 -- Assumes nothing.
 use mathlib.Core.Path.{_≡_, sym, ap, _∙_, subst}
 use mathlib.Core.Bool.{Bool, true, false, _&&_, _||_}
-use Prim.Native.Nat.{ℕ, _+_, _≤_, _<_, _^_, min}
+use Prim.Native.Nat.{_+_, _≤_, _<_, _^_, min}
 use native.Mathlib.Omega.{arith}
 use lib.Dec.{T, leb}
 use lib.IntN.{ℤ, pos, negsuc, natAbs}
 use lib.Pow.{pow-pos}
-use lib.Signed.{mag, leZ, nonNeg, mag-shr}
+use lib.Signed.{mag, leZ, nonNeg}
 use mir.Syntax.{Width}
 use mir.Val.{SFits, hbits, toZ, ofZ}
 use mir.Facts.{toZ-ofZ, sfits-widen}
-use mir.ValLaws.{sfits-le}
-use Rattle.ints.specs.Whole.{minZ, maxZ, floorZ}
+use Rattle.ints.specs.Whole.{minZ, maxZ}
 use Rattle.ints.proofs.Parts.{up, down, one-part, abs, nonneg-is}
 
 -- what the machine reads back from the bits of z
@@ -33,9 +32,6 @@ fits-mag w z h = record { sfits = h }
 pub of-fits : (w : Width) (z : ℤ) → SFits w z → (up z < 2 ^ hbits w) × (down z ≤ 2 ^ hbits w)
 of-fits w (pos n) h = omega (arith, pow-pos (hbits w))
 of-fits w (negsuc n) h = omega (arith, pow-pos (hbits w))
-
-pub floor-fits : (w : Width) (z : ℤ) (m : ℕ) → SFits w z → SFits w (floorZ z m)
-floor-fits w z m f = sfits-le {y = floorZ z m} (mag-shr z m) f
 
 -- a number that fits is read back as it is
 pub held : (w : Width) (z : ℤ) → mag z < 2 ^ hbits w → back w z ≡ z
@@ -93,9 +89,6 @@ called₁ w w′ f r x k e h = held w′ r k ∙ tested₁ w f r x e h
 
 pub called₂ : (w : Width) (f : ℤ → ℤ → ℤ) (r x y : ℤ) → mag r < 2 ^ hbits w → r ≡ f (back w x) (back w y) → mag x < 2 ^ hbits w → mag y < 2 ^ hbits w → back w r ≡ f x y
 called₂ w f r x y k e h g = held w r k ∙ tested₂ w f r x y e h g
-
-pub called₃ : (w : Width) (f : ℤ → ℤ → ℤ → ℤ) (r x y z : ℤ) → mag r < 2 ^ hbits w → r ≡ f (back w x) (back w y) (back w z) → mag x < 2 ^ hbits w → mag y < 2 ^ hbits w → mag z < 2 ^ hbits w → back w r ≡ f x y z
-called₃ w f r x y z k e h g l = held w r k ∙ tested₃ w f r x y z e h g l
 
 -- two tests joined by &&, of which the first passed (both) or failed (neither)
 pub both : (r s p q : Bool) → r ≡ true → r ≡ p → s ≡ q → s ≡ p && q

@@ -5,21 +5,11 @@ use mathlib.Core.Bool.{Bool, true, false, _||_, cond}
 use mathlib.Core.List.{List, [], _∷_, map, List·Memᴰ, List·Memᴰ·head, List·Memᴰ·tail, List·Memᴰ·cases-cons, List·Memᴰ·not-nil}
 use mathlib.Core.Logic.{⊎-elim}
 use Rattle.ints.proofs.Parts.{true-false}
+use Rattle.ints.proofs.Truth.{or-left, or-right}
 
 pub false-of : (b : Bool) → (b ≡ true → ⊥) → b ≡ false
 false-of true n = absurd (n refl)
 false-of false n = refl
-
-pub or-left : (a b : Bool) → a ≡ true → a || b ≡ true
-or-left a b e = rw e
-
-pub or-right : (a b : Bool) → b ≡ true → a || b ≡ true
-or-right true b e = refl
-or-right false b e = e
-
-pub or-false-right : (a b : Bool) → a || b ≡ false → b ≡ false
-or-false-right true b h = absurd (true-false h)
-or-false-right false b h = h
 
 -- ---- what a function makes of the elements
 

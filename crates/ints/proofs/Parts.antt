@@ -3,11 +3,11 @@
 -- with the law of each sum, difference or product that stands in it.
 -- Assumes nothing.
 use mathlib.Core.Path.{_≡_, refl, sym, ap}
-use mathlib.Core.Bool.{Bool, true, false, not}
+use mathlib.Core.Bool.{Bool, true, false}
 use Prim.Native.Nat.{ℕ, zero, suc, _+_, _*_, _/_, _≤_, _<_, min}
 use native.Mathlib.Nat.{mul-le-mul, mul-le-mul-right, zero-div}
 use native.Mathlib.Omega.{arith}
-use lib.Dec.{T, ltb, leb·zero, leb·suc-zero}
+use lib.Dec.{T, ltb, leb·zero}
 use lib.IntN.{ℤ, pos, negsuc, negℤ, subℕ, _+ℤ_, _-ℤ_, _*ℤ_, natAbs}
 use lib.Signed.{leZ, ltZ, nonNeg}
 use borrow.Author.Tests.{ltb-true, ltb-false, leb-true, leb-false, le-leb, lt-leb, lt-ltb, le-ltb}
@@ -149,10 +149,6 @@ nonneg-of (negsuc n) h = absurd (omega arith)
 pub nonneg-is : (z : ℤ) → leZ (pos 0) z ≡ nonNeg z
 nonneg-is (pos n) = leb·zero n
 nonneg-is (negsuc n) = refl
-
-pub neg-is : (z : ℤ) → ltZ z (pos 0) ≡ not (nonNeg z)
-neg-is (pos n) = leb·suc-zero n
-neg-is (negsuc n) = refl
 
 -- omega reads each of these as a rule: a test among the hypotheses, and a test or an equation as the goal
 pub ruleset signed = (lt-true, lt-false, le-true, le-false, true-lt, false-lt, true-le, false-le, nonneg-of, equal)

@@ -3,7 +3,6 @@
 -- Assumes nothing.
 use mathlib.Core.Path.{_≡_, refl, ap, _∙_}
 use mathlib.Core.Bool.{Bool, true, false, _&&_}
-use mathlib.Core.Logic.{_↔_}
 use Prim.Native.Nat.{ℕ, zero, suc, _+_, _-_, _*_, _≤_}
 use native.Mathlib.Nat.{add-mul, suc-mul}
 use native.Mathlib.Omega.{arith}
@@ -316,6 +315,3 @@ leads-meets i l g d r e =
     after : (hi : End) (x s t low : ℤ) → notAbove hi x ≡ true → leZ s t ≡ true → leZ low (x +ℤ s) ≡ true → notAbove (shifted hi t) low ≡ true
     after endless x s t low h k m = refl
     after (at e) x s t low h k m = omega (arith, signed, add x s, add e t)
-
-pub meets-exactly : (i : ℕ) (l g d : ℤ) (r : Range) → natAbs d ≤ cellSize → leZ l g ≡ true → leZ (r .low) (r .high) ≡ true → (meets (movedSpan (cellSpan i) l g d) r ≡ true) ↔ Leads i l g d r
-meets-exactly i l g d r small h o = (meets-leads i l g d r small h o, leads-meets i l g d r)

@@ -89,9 +89,6 @@ pub record BlockWithin (a b : Block) : Type 0 where
 pub cells-within : {a b : Block} → BlockWithin a b → {c : Cell} → List·Memᴰ c (cellsOf a) → List·Memᴰ c (cellsOf b)
 cells-within {a} {b} w m = let h = cells-in a m in cells-have b (omega arith)
 
-pub block-within-trans : {a b e : Block} → BlockWithin a b → BlockWithin b e → BlockWithin a e
-block-within-trans h k = omega arith
-
 pub within-grid-on : {b : Block} → BlockWithin b wholeGrid → {c : Cell} → List·Memᴰ c (cellsOf b) → OnGrid c
 within-grid-on {b} w m = let h = cells-in b m in omega arith
 

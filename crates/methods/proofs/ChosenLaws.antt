@@ -1,11 +1,10 @@
 -- What a caller relies on: a slot of valid rows and an ask are what the claims are stated for, and marking keeps the number of marks.
 -- Assumes nothing.
-use mathlib.Core.Path.{_≡_, refl, _∙_}
+use mathlib.Core.Path.{_≡_}
 use mathlib.Core.Bool.{true}
-use mathlib.Core.List.{List, [], _∷_}
+use mathlib.Core.List.{List}
 use Prim.Native.Nat.{ℕ}
 use lib.IntN.{ℤ}
-use lib.ListN.{length, set, length-set}
 use Rattle.grid.specs.Places.{OnGrid}
 use Rattle.grid.specs.Curve.{curveNumber}
 use Rattle.grid.specs.declared.Cell.{Cell}
@@ -13,7 +12,7 @@ use Rattle.grid.specs.declared.Rect.{Rect}
 use Rattle.grid.proofs.Curve.{number-below}
 use Rattle.rows.specs.Row.{validRow}
 use Rattle.rows.proofs.TableLaws.{valid-row-at}
-use Rattle.methods.specs.Chosen.{rowsOfSlot, withCells, IsSlot, IsAsk}
+use Rattle.methods.specs.Chosen.{rowsOfSlot, IsSlot, IsAsk}
 use Rattle.methods.specs.Claims.{Asked}
 
 pub slot-valid : {t : List ℤ} {slot : ℕ} → IsSlot t slot → (c : Cell) → OnGrid c → validRow (rowsOfSlot t slot c) ≡ true
@@ -28,8 +27,3 @@ asked s a =
       not-early = a .not-early;
       not-late = a .not-late;
     }
-
-pub length-with : (marks : List ℕ) (cs : List Cell) → length (withCells marks cs) ≡ length marks
-unfolding withCells
-length-with marks [] = refl
-length-with marks (c ∷ cs) = length-with (set marks (curveNumber c) 1) cs ∙ length-set marks (curveNumber c) 1

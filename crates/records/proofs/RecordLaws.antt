@@ -32,10 +32,6 @@ pub now-of-store : (now : ℤ) (rs : List Record) → nowOf (storeOf now rs) ≡
 unfolding storeOf
 now-of-store now rs = refl
 
-pub held-of-store : (now : ℤ) (rs : List Record) → heldOf (storeOf now rs) ≡ length rs
-unfolding storeOf
-held-of-store now rs = refl
-
 pub records-of-store : (now : ℤ) (rs : List Record) → recordsOf (storeOf now rs) ≡ rs
 unfolding recordsOf storeOf
 records-of-store now rs = read-written rs (replicate (recordWords * (capacity - length rs)) (pos 0))

@@ -6,18 +6,18 @@ use mathlib.Core.List.{List, [], _∷_}
 use mathlib.Core.Logic.{dite}
 use Prim.Native.Nat.{ℕ, suc, _+_, _-_, _*_, _≤_, _<_}
 use native.Mathlib.Decide.{decLt}
-use native.Mathlib.Nat.{add-zero}
 use native.Mathlib.Numerals.{add-one}
 use native.Mathlib.Omega.{arith}
 use lib.IntN.{ℤ, pos}
 use lib.ListN.{length, getD, drop, take, drop-of-length-le, length-drop}
-use lib.Seq.{drop-cons, drop-drop, getD-drop, take-all}
+use lib.Seq.{drop-cons, drop-drop, take-all}
 use Rattle.ints.specs.Whole.{eqZ}
 use Rattle.ints.proofs.Truth.{and-left, and-right}
 use Rattle.records.specs.Records.{recordWords, recordFrom, readRecords}
 use Rattle.records.specs.Order.{precedes, isSorted}
 use Rattle.records.specs.Soundness.{allZero, isRanged, allRanged}
 use Rattle.records.specs.declared.Record.{Record}
+use Rattle.records.proofs.PlaceLaws.{record-at}
 
 -- ---- words
 
@@ -42,23 +42,6 @@ module _ (w : List ℤ) (i : ℕ) (e : allZero w ≡ allZero (drop i w)) where
 
 -- ---- records
 
-record-drop : (k : ℕ) (w : List ℤ) → recordFrom (drop k w) 0 ≡ recordFrom w k
-record-drop k w =
-    let z = pos 0 in
-    let first : getD (drop k w) 0 z ≡ getD w k z = getD-drop k w 0 z ∙ ap (λ (m : ℕ). getD w m z) (add-zero k) in
-    λ j.
-    record {
-      key = first j;
-      report = record {
-        id = getD-drop k w 1 z j;
-        t = getD-drop k w 2 z j;
-        x = getD-drop k w 3 z j;
-        y = getD-drop k w 4 z j;
-        vx = getD-drop k w 5 z j;
-        vy = getD-drop k w 6 z j;
-      };
-    }
-
 -- the records from the i-th on, of n
 abbrev pub left : ℕ → ℕ → List ℤ → List Record
 left n i w = readRecords (n - i) (drop (recordWords * i) w)
@@ -74,7 +57,7 @@ left-at n i w h =
     ap (λ (m : ℕ). readRecords m (drop (recordWords * i) w)) e
     ∙ ap₂
     _∷_
-    (record-drop (recordWords * i) w)
+    (record-at (recordWords * i) w)
     (ap (readRecords (n - (i + 1))) (drop-drop recordWords (recordWords * i) w ∙ ap (λ (m : ℕ). drop m w) f))
 
 pub none-left : (n i : ℕ) (w : List ℤ) → n ≤ i → left n i w ≡ []

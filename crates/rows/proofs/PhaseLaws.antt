@@ -11,15 +11,19 @@ use native.Mathlib.Omega.{arith}
 use borrow.Author.Tests.{leb-true, le-leb}
 use lib.Dec.{leb}
 use lib.IntN.{ℤ, pos, negsuc}
-use Rattle.ints.proofs.Parts.{up}
+use Rattle.ints.proofs.Parts.{up, le-true, one-part}
 use Rattle.ints.proofs.Truth.{and-true, and-left, and-right}
 use Rattle.rows.specs.Phases.{phaseOf, phaseSeconds, isLive, livePhases, slotOf, slots}
+use lib.Signed.{leZ}
 
 -- the phase in ℕ, for omega
 pub phase-is : (z : ℤ) → phaseOf z ≡ up z / 3600
 unfolding phaseOf
 phase-is (pos t) = refl
 phase-is (negsuc t) = sym (zero-div phaseSeconds)
+
+pub phases-grow : (a b : ℤ) → leZ a b ≡ true → phaseOf a ≤ phaseOf b
+phases-grow a b h = omega (arith, le-true a b h, phase-is a, phase-is b, one-part a, one-part b)
 
 -- ---- live phases
 

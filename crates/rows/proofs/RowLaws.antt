@@ -98,10 +98,6 @@ joined-within {a} {b} {c} h k =
 pub joined-absorbs : {a b : Row} → Within a b → joined a b ≡ b
 joined-absorbs {a} {b} h = within-antisym (joined-within h (within-refl b)) (within-joined-right a b)
 
-pub joined-mono : {a b c d : Row} → Within a c → Within b d → Within (joined a b) (joined c d)
-joined-mono {a} {b} {c} {d} h k =
-    joined-within (within-trans h (within-joined-left c d)) (within-trans k (within-joined-right c d))
-
 -- ---- holding a speed
 
 between-wider : (l g l′ g′ v : ℤ) → leZ l′ l ≡ true → leZ g g′ ≡ true → between l g v ≡ true → between l′ g′ v ≡ true
@@ -234,10 +230,6 @@ valid-cases r v = go (isEmpty r) refl
     go : (t : Bool) → isEmpty r ≡ t → (r ≡ emptyRow) ⊎ Ranged r
     go true e = inl (empty-is r e)
     go false e = inr (valid-ranged r v e)
-
-pub valid-of : {r : Row} → (r ≡ emptyRow) ⊎ Ranged r → validRow r ≡ true
-valid-of (inl e) = rw e empty-valid
-valid-of (inr h) = ranged-valid h
 
 -- ---- the empty row is within every valid row, and joining with it changes nothing
 

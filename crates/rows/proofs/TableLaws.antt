@@ -4,9 +4,9 @@
 use mathlib.Core.Path.{_≡_, refl, sym, ap, ap₂, _∙_, subst}
 use mathlib.Core.Bool.{Bool, true, false, cond}
 use mathlib.Core.List.{List, [], _∷_, _++_, List·Memᴰ, List·Memᴰ·head, List·Memᴰ·tail, List·Memᴰ·cases-cons, List·Memᴰ·not-nil}
-use mathlib.Core.Logic.{_⊎_, inl, inr, ⊎-elim, _≢_, dite}
+use mathlib.Core.Logic.{_⊎_, ⊎-elim, _≢_, dite}
 use Prim.Native.Nat.{ℕ, zero, suc, _+_, _*_, _-_, _/_, _%_, _≤_, _<_}
-use native.Mathlib.Nat.{add-zero, zero-add}
+use native.Mathlib.Nat.{add-zero}
 use native.Mathlib.Decide.{decLt, ℕ-discrete}
 use native.Mathlib.Omega.{arith}
 use borrow.Author.Tests.{ltb-true, lt-ltb}
@@ -18,9 +18,9 @@ use Rattle.ints.proofs.Truth.{and-true, and-left, and-right}
 use Rattle.grid.specs.Units.{cells}
 use Rattle.rows.specs.Row.{emptyRow, validRow}
 use Rattle.rows.specs.Phases.{isLive, livePhases, slotOf, slots}
-use Rattle.rows.specs.Table.{slotWords, tableWords, rowFrom, rowPlace, rowAt, withRow, emptyRows, withSlotEmpty, withLaterEmpty, withNewlyLiveEmpty, slotRows, validRows, validTable}
+use Rattle.rows.specs.Table.{slotWords, tableWords, rowFrom, rowPlace, rowAt, withRow, emptyRows, withSlotEmpty, withLaterEmpty, withNewlyLiveEmpty, validRows, validTable}
 use Rattle.rows.specs.declared.Row.{Row}
-use Rattle.rows.proofs.RowLaws.{same-numbers, empty-valid, AllValid}
+use Rattle.rows.proofs.RowLaws.{same-numbers}
 use Rattle.rows.proofs.PhaseLaws.{listed-live, live-listed, same-slot, slot-on}
 
 -- two rows of words are the same where their four words are
@@ -311,75 +311,3 @@ valid-of-rows t h =
     (λ k l.
     let e : 4 * k ≡ rowPlace (k / 1024) (k % 1024) = omega arith in
     ap (λ (j : ℕ). validRow (rowFrom t j)) e ∙ h (k / 1024) (k % 1024) (omega arith) (omega arith))
-
-pub with-row-valid : (t : List ℤ) (slot number : ℕ) (r : Row) → length t ≡ tableWords → slot < slots → number < cells → validTable t ≡ true → validRow r ≡ true → validTable (withRow t slot number r) ≡ true
-with-row-valid t slot number r e on h v w = valid-of-rows (withRow t slot number r) each
-  where
-    other : (s n : ℕ) → s < slots → n < cells → (s ≢ slot) ⊎ (n ≢ number) → validRow (rowAt (withRow t slot number r) s n) ≡ true
-    other s n l k differ = ap validRow (row-other t slot number r s n h k differ) ∙ valid-row-at t v s n l k
-
-    each : (s n : ℕ) → s < slots → n < cells → validRow (rowAt (withRow t slot number r) s n) ≡ true
-    each s n l k =
-        dite (ℕ-discrete s slot)
-        (λ same.
-        dite (ℕ-discrete n number)
-        (λ equal. ap (λ (x : ℕ). validRow (rowAt (withRow t slot number r) x n)) same ∙ ap (λ (x : ℕ). validRow (rowAt (withRow t slot number r) slot x)) equal ∙ ap validRow (row-written t slot number r e on h) ∙ w)
-        (λ differ. other s n l k (inr differ)))
-        (λ differ. other s n l k (inl differ))
-
-pub slot-empty-valid : (t : List ℤ) (slot : ℕ) → length t ≡ tableWords → slot < slots → validTable t ≡ true → validTable (withSlotEmpty t slot) ≡ true
-slot-empty-valid t slot e on v =
-    valid-of-rows (withSlotEmpty t slot)
-    (λ s n l k.
-    dite (ℕ-discrete s slot)
-    (λ same. ap (λ (x : ℕ). validRow (rowAt (withSlotEmpty t slot) x n)) same ∙ ap validRow (row-emptied t slot e on n k) ∙ empty-valid)
-    (λ differ. ap validRow (row-kept t slot e on s n k differ) ∙ valid-row-at t v s n l k))
-
-pub later-empty-valid : (t : List ℤ) (earlier : ℕ) (ps : List ℕ) → length t ≡ tableWords → validTable t ≡ true → validTable (withLaterEmpty t earlier ps) ≡ true
-unfolding withLaterEmpty
-later-empty-valid t earlier [] e v = v
-later-empty-valid t earlier (p ∷ ps) e v =
-    later-empty-valid (emptiedIfLater t earlier p) earlier ps (length-step t earlier p e) (go (ltb earlier p))
-  where
-    go : (later : Bool) → validTable (cond later (withSlotEmpty t (slotOf p)) t) ≡ true
-    go true = slot-empty-valid t (slotOf p) e (slot-on p) v
-    go false = v
-
-pub newly-live-empty-valid : (t : List ℤ) (earlier c : ℕ) → length t ≡ tableWords → validTable t ≡ true → validTable (withNewlyLiveEmpty t earlier c) ≡ true
-newly-live-empty-valid t earlier c = later-empty-valid t earlier (livePhases c)
-
--- ---- the list of a slot's rows: each of them is in it, and nothing else
-
-row-in-list : (t : List ℤ) (slot start n k : ℕ) → k < n → List·Memᴰ (rowAt t slot (start + k)) (slotRows t slot start n)
-unfolding slotRows
-row-in-list t slot start zero k h = absurd (omega arith)
-row-in-list t slot start (suc n) zero h = List·Memᴰ·head (ap (rowAt t slot) (add-zero start))
-row-in-list t slot start (suc n) (suc k) h =
-    let e : suc start + k ≡ start + suc k = omega arith in
-    List·Memᴰ·tail
-    (subst (λ (m : ℕ). List·Memᴰ (rowAt t slot m) (slotRows t slot (suc start) n)) e (row-in-list t slot (suc start) n k (omega arith)))
-
-rows-in-list : (P : Row → Type 0) (t : List ℤ) (slot start n : ℕ) → ((k : ℕ) → k < n → P (rowAt t slot (start + k))) → (r : Row) → List·Memᴰ r (slotRows t slot start n) → P r
-unfolding slotRows
-rows-in-list P t slot start zero h r m = absurd (List·Memᴰ·not-nil m)
-rows-in-list P t slot start (suc n) h r m =
-    ⊎-elim
-    (λ e. subst P (sym (e ∙ sym (ap (rowAt t slot) (add-zero start)))) (h 0 (omega arith)))
-    (λ l.
-    rows-in-list P t slot (suc start) n
-    (λ k b. let e : start + suc k ≡ suc start + k = omega arith in subst (λ (j : ℕ). P (rowAt t slot j)) e (h (suc k) (omega arith)))
-    r l)
-    (List·Memᴰ·cases-cons m)
-
-pub slot-row-listed : (t : List ℤ) (slot number : ℕ) → number < cells → List·Memᴰ (rowAt t slot number) (slotRows t slot 0 cells)
-slot-row-listed t slot number h =
-    subst (λ (m : ℕ). List·Memᴰ (rowAt t slot m) (slotRows t slot 0 cells)) (zero-add number) (row-in-list t slot 0 cells number h)
-
--- what holds of each row of the slot holds of each row in the list
-pub listed-slot-row : (P : Row → Type 0) (t : List ℤ) (slot : ℕ) → ((number : ℕ) → number < cells → P (rowAt t slot number)) → (r : Row) → List·Memᴰ r (slotRows t slot 0 cells) → P r
-listed-slot-row P t slot h =
-    rows-in-list P t slot 0 cells (λ k l. subst (λ (m : ℕ). P (rowAt t slot m)) (sym (zero-add k)) (h k l))
-
-pub slot-rows-valid : (t : List ℤ) (slot : ℕ) → validTable t ≡ true → slot < slots → AllValid (slotRows t slot 0 cells)
-slot-rows-valid t slot v on =
-    listed-slot-row (λ (r : Row). validRow r ≡ true) t slot (λ number h. valid-row-at t v slot number on h)

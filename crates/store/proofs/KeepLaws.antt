@@ -7,78 +7,17 @@ use mathlib.Core.List.{List, [], _∷_}
 use Prim.Native.Nat.{ℕ, suc, _+_, _-_}
 use native.Mathlib.Omega.{arith}
 use lib.IntN.{ℤ}
-use lib.Signed.{ltZ}
 use lib.ListN.{length}
 use Rattle.ints.specs.Whole.{eqZ}
-use Rattle.ints.proofs.Parts.{true-false, signed}
-use Rattle.ints.proofs.Truth.{and-true, and-left, and-right}
-use Rattle.ints.proofs.Same.{same-is, is-same, same-comm}
+use Rattle.ints.proofs.Parts.{true-false}
+use Rattle.ints.proofs.Truth.{and-true, and-left, and-right, or-neither, or-swap}
+use Rattle.ints.proofs.Same.{same-comm}
 use Rattle.records.specs.Order.{precedes, precedesFirst, isSorted, hasId}
 use Rattle.records.specs.Soundness.{isRanged, allRanged, idsDistinct}
 use Rattle.store.specs.Changes.{inserted, insertedAll, removed, placedIn, livesOn, kept, replaced, steppedRecords}
 use Rattle.records.specs.declared.Record.{Record}
-use Rattle.store.proofs.StepLaws.{inserted-length, placed-ranged}
-
--- ---- the order of records
-
--- a stands before b, as numbers
-pub data Before (a b : Record) : Type 0 where
-  by-key : ltZ (a .key) (b .key) ≡ true → Before a b
-  by-id : a .key ≡ b .key → ltZ (a .report .id) (b .report .id) ≡ true → Before a b
-
-pub before-of : (a b : Record) → precedes a b ≡ true → Before a b
-unfolding precedes
-before-of a b h = go (ltZ (a .key) (b .key)) refl h
-  where
-    go : (t : Bool) → ltZ (a .key) (b .key) ≡ t → t || (eqZ (a .key) (b .key) && ltZ (a .report .id) (b .report .id)) ≡ true → Before a b
-    go true e k = by-key e
-    go false e k = by-id (same-is (a .key) (b .key) (and-left _ _ k)) (and-right (eqZ (a .key) (b .key)) _ k)
-
-pub of-before : (a b : Record) → Before a b → precedes a b ≡ true
-unfolding precedes
-of-before a b (by-key h) = rw h
-of-before a b (by-id e h) = go (ltZ (a .key) (b .key))
-  where
-    go : (t : Bool) → t || (eqZ (a .key) (b .key) && ltZ (a .report .id) (b .report .id)) ≡ true
-    go true = refl
-    go false = and-true (eqZ (a .key) (b .key)) (ltZ (a .report .id) (b .report .id)) (is-same (a .key) (b .key) e) h
-
-before-trans : (a b c : Record) → Before a b → Before b c → Before a c
-before-trans a b c (by-key h) (by-key k) = by-key (omega (arith, signed))
-before-trans a b c (by-key h) (by-id e k) = by-key (rw (← e) h)
-before-trans a b c (by-id e h) (by-key k) = by-key (rw e k)
-before-trans a b c (by-id e h) (by-id f k) = by-id (e ∙ f) (omega (arith, signed))
-
-pub precedes-trans : (a b c : Record) → precedes a b ≡ true → precedes b c ≡ true → precedes a c ≡ true
-precedes-trans a b c h k = of-before a c (before-trans a b c (before-of a b h) (before-of b c k))
-
-never-before : (a : Record) → Before a a → ⊥
-never-before a (by-key h) = omega (arith, signed)
-never-before a (by-id e h) = omega (arith, signed)
-
-pub precedes-irrefl : (a : Record) → precedes a a ≡ true → ⊥
-precedes-irrefl a h = never-before a (before-of a a h)
-
--- of two records with different ids one stands before the other
-pub precedes-total : (a b : Record) → eqZ (a .report .id) (b .report .id) ≡ false → precedes a b ≡ false → precedes b a ≡ true
-precedes-total a b n h = go (ltZ (a .key) (b .key)) (ltZ (b .key) (a .key)) refl refl
-  where
-    last : a .key ≡ b .key → (s t : Bool) → ltZ (a .report .id) (b .report .id) ≡ s → ltZ (b .report .id) (a .report .id) ≡ t → precedes b a ≡ true
-    last e s true es et = of-before b a (by-id (sym e) et)
-    last e true false es et = absurd (true-false (sym (of-before a b (by-id e es)) ∙ h))
-    last e false false es et =
-        let q : a .report .id ≡ b .report .id = omega (arith, signed) in
-        absurd (true-false (sym (is-same (a .report .id) (b .report .id) q) ∙ n))
-
-    go : (s t : Bool) → ltZ (a .key) (b .key) ≡ s → ltZ (b .key) (a .key) ≡ t → precedes b a ≡ true
-    go s true es et = of-before b a (by-key et)
-    go true false es et = absurd (true-false (sym (of-before a b (by-key es)) ∙ h))
-    go false false es et =
-        let e : a .key ≡ b .key = omega (arith, signed) in
-        last e (ltZ (a .report .id) (b .report .id)) (ltZ (b .report .id) (a .report .id)) refl refl
-
-never-both : (a b : Record) → precedes a b ≡ true → precedes b a ≡ true → ⊥
-never-both a b h k = precedes-irrefl a (precedes-trans a b a h k)
+use Rattle.store.proofs.OrderLaws.{precedes-trans, precedes-total, inserted-length, has-inserted, rest-other}
+use Rattle.store.proofs.StepLaws.{placed-ranged}
 
 -- ---- members
 
@@ -94,15 +33,6 @@ in-inserted x r (a ∷ rs) h = go (precedes r a) h (in-inserted x r rs)
     go : (b : Bool) → Member x (cond b (r ∷ a ∷ rs) (a ∷ inserted r rs)) → (Member x (inserted r rs) → (x ≡ r) ⊎ Member x rs) → (x ≡ r) ⊎ Member x (a ∷ rs)
     go true h ih = h
     go false h ih = ⊎-elim (λ e. inr (inl e)) (λ k. ⊎-elim (λ e. inl e) (λ m. inr (inr m)) (ih k)) h
-
-pub inserted-in : (x r : Record) (rs : List Record) → (x ≡ r) ⊎ Member x rs → Member x (inserted r rs)
-unfolding inserted
-inserted-in x r [] h = h
-inserted-in x r (a ∷ rs) h = go (precedes r a) h (inserted-in x r rs)
-  where
-    go : (b : Bool) → (x ≡ r) ⊎ Member x (a ∷ rs) → ((x ≡ r) ⊎ Member x rs → Member x (inserted r rs)) → Member x (cond b (r ∷ a ∷ rs) (a ∷ inserted r rs))
-    go true h ih = h
-    go false h ih = ⊎-elim (λ e. inr (ih (inl e))) (λ k. ⊎-elim (λ e. inl e) (λ m. inr (ih (inr m))) k) h
 
 pub in-removed : (x : Record) (id : ℤ) (rs : List Record) → Member x (removed id rs) → Member x rs
 unfolding removed
@@ -141,19 +71,6 @@ unfolding isSorted
 sorted-cons a [] f h = refl
 sorted-cons a (b ∷ rs) f h = and-true (precedes a b) (isSorted (b ∷ rs)) (f b (inl refl)) h
 
--- two sorted lists with the same members are the same list
-pub same-members : (xs ys : List Record) → isSorted xs ≡ true → isSorted ys ≡ true → ((x : Record) → Member x xs → Member x ys) → ((y : Record) → Member y ys → Member y xs) → xs ≡ ys
-same-members [] [] h k f g = refl
-same-members [] (y ∷ ys) h k f g = absurd (g y (inl refl))
-same-members (x ∷ xs) [] h k f g = absurd (f x (inl refl))
-same-members (x ∷ xs) (y ∷ ys) h k f g =
-    let e : x ≡ y = ⊎-elim (λ q. q) (λ m. ⊎-elim (λ q. sym q) (λ n. absurd (never-both x y (sorted-all x xs h y n) (sorted-all y ys k x m))) (g y (inl refl))) (f x (inl refl)) in
-    let there : (z : Record) → Member z xs → Member z ys =
-    λ z m. ⊎-elim (λ q. absurd (precedes-irrefl x (sym (ap (precedes x) (q ∙ sym e)) ∙ sorted-all x xs h z m))) (λ n. n) (f z (inr m)) in
-    let back : (z : Record) → Member z ys → Member z xs =
-    λ z m. ⊎-elim (λ q. absurd (precedes-irrefl y (sym (ap (precedes y) (q ∙ e)) ∙ sorted-all y ys k z m))) (λ n. n) (g z (inr m)) in
-    λ i. e i ∷ same-members xs ys (sorted-rest x xs h) (sorted-rest y ys k) there back i
-
 -- ---- a record put in
 
 -- a record that differs by id from each of some records
@@ -166,18 +83,10 @@ no-id id (a ∷ rs) h x m = go (eqZ (a .report .id) id) refl h (no-id id rs)
     go true e k ih = absurd (true-false k)
     go false e k ih = ⊎-elim (λ q. rw q e) (λ n. ih k x n) m
 
-pub no-id-rest : (id : ℤ) (a : Record) (rs : List Record) → hasId id (a ∷ rs) ≡ false → hasId id rs ≡ false
-unfolding hasId
-no-id-rest id a rs h = go (eqZ (a .report .id) id) h
-  where
-    go : (b : Bool) → b || hasId id rs ≡ false → hasId id rs ≡ false
-    go true k = absurd (true-false k)
-    go false k = k
-
 pub inserted-sorted : (r : Record) (rs : List Record) → isSorted rs ≡ true → hasId (r .report .id) rs ≡ false → isSorted (inserted r rs) ≡ true
 unfolding inserted
 inserted-sorted r [] h n = sorted-cons r [] (λ x m. absurd m) h
-inserted-sorted r (a ∷ rs) h n = go (precedes r a) refl (inserted-sorted r rs (sorted-rest a rs h) (no-id-rest (r .report .id) a rs n))
+inserted-sorted r (a ∷ rs) h n = go (precedes r a) refl (inserted-sorted r rs (sorted-rest a rs h) (rest-other (r .report .id) a rs n))
   where
     after : precedes r a ≡ false → precedes a r ≡ true
     after e = precedes-total r a (same-comm (r .report .id) (a .report .id) ∙ no-id (r .report .id) (a ∷ rs) n a (inl refl)) e
@@ -194,29 +103,6 @@ inserted-ranged r (a ∷ rs) h k = go (precedes r a) (inserted-ranged r rs h (an
     go : (b : Bool) → allRanged (inserted r rs) ≡ true → allRanged (cond b (r ∷ a ∷ rs) (a ∷ inserted r rs)) ≡ true
     go true i = and-true (isRanged r) (isRanged a && allRanged rs) h k
     go false i = and-true (isRanged a) (allRanged (inserted r rs)) (and-left (isRanged a) (allRanged rs) k) i
-
--- two records with different ids may be put in in either order
-pub inserted-commutes : (a b : Record) (rs : List Record) → eqZ (a .report .id) (b .report .id) ≡ false → inserted a (inserted b rs) ≡ inserted b (inserted a rs)
-unfolding inserted
-inserted-commutes a b [] n = go (precedes a b) (precedes b a) refl refl
-  where
-    go : (s t : Bool) → precedes a b ≡ s → precedes b a ≡ t → cond (precedes a b) (a ∷ b ∷ []) (b ∷ a ∷ []) ≡ cond (precedes b a) (b ∷ a ∷ []) (a ∷ b ∷ [])
-    go true true es et = absurd (never-both a b es et)
-    go true false es et = rw (es, et)
-    go false true es et = rw (es, et)
-    go false false es et = absurd (true-false (sym (precedes-total a b n es) ∙ et))
-inserted-commutes a b (c ∷ rs) n = go (precedes a c) (precedes b c) (precedes a b) (precedes b a) refl refl refl refl (inserted-commutes a b rs n)
-  where
-    go : (s t u v : Bool) → precedes a c ≡ s → precedes b c ≡ t → precedes a b ≡ u → precedes b a ≡ v → inserted a (inserted b rs) ≡ inserted b (inserted a rs) → inserted a (cond (precedes b c) (b ∷ c ∷ rs) (c ∷ inserted b rs)) ≡ inserted b (cond (precedes a c) (a ∷ c ∷ rs) (c ∷ inserted a rs))
-    go true true true true es et eu ev ih = absurd (never-both a b eu ev)
-    go true true true false es et eu ev ih = rw (es, et, eu, ev)
-    go true true false true es et eu ev ih = rw (es, et, eu, ev, es)
-    go true true false false es et eu ev ih = absurd (true-false (sym (precedes-total a b n eu) ∙ ev))
-    go true false u true es et eu ev ih = absurd (true-false (sym (precedes-trans b a c ev es) ∙ et))
-    go true false u false es et eu ev ih = rw (es, et, ev, es)
-    go false true true v es et eu ev ih = absurd (true-false (sym (precedes-trans a b c eu et) ∙ es))
-    go false true false v es et eu ev ih = rw (es, et, eu, es)
-    go false false u v es et eu ev ih = rw (es, et, es) (ap (λ (l : List Record). c ∷ l) ih)
 
 -- ---- a record taken out
 
@@ -300,12 +186,6 @@ stepped-ranged c later rs h =
 
 -- ---- ids
 
-or-swap : (s t u : Bool) → s || (t || u) ≡ t || (s || u)
-or-swap true true u = refl
-or-swap true false u = refl
-or-swap false true u = refl
-or-swap false false u = refl
-
 or-move : (x d r : Bool) → x || (d || r) ≡ (d || x) || r
 or-move true true r = refl
 or-move true false r = refl
@@ -316,22 +196,9 @@ or-assoc : (s t u : Bool) → (s || t) || u ≡ s || (t || u)
 or-assoc true t u = refl
 or-assoc false t u = refl
 
-or-none : (s t : Bool) → s || t ≡ false → (s ≡ false) × (t ≡ false)
-or-none true t h = absurd (true-false h)
-or-none false t h = (refl, h)
-
 not-none : (b : Bool) → not b ≡ true → b ≡ false
 not-none true h = absurd (true-false (sym h))
 not-none false h = refl
-
-pub has-inserted : (id : ℤ) (r : Record) (rs : List Record) → hasId id (inserted r rs) ≡ eqZ (r .report .id) id || hasId id rs
-unfolding inserted hasId
-has-inserted id r [] = refl
-has-inserted id r (a ∷ rs) = go (precedes r a) (has-inserted id r rs)
-  where
-    go : (b : Bool) → hasId id (inserted r rs) ≡ eqZ (r .report .id) id || hasId id rs → hasId id (cond b (r ∷ a ∷ rs) (a ∷ inserted r rs)) ≡ eqZ (r .report .id) id || (eqZ (a .report .id) id || hasId id rs)
-    go true ih = refl
-    go false ih = ap (λ (b : Bool). eqZ (a .report .id) id || b) ih ∙ or-swap (eqZ (a .report .id) id) (eqZ (r .report .id) id) (hasId id rs)
 
 has-all : (id : ℤ) (ds rs : List Record) → hasId id (insertedAll ds rs) ≡ hasId id ds || hasId id rs
 unfolding insertedAll hasId
@@ -357,7 +224,7 @@ has-stepped id c later rs = has-all id (replaced c later rs) (kept c later rs) �
 pub inserted-distinct : (r : Record) (rs : List Record) → idsDistinct rs ≡ true → hasId (r .report .id) rs ≡ false → idsDistinct (inserted r rs) ≡ true
 unfolding inserted idsDistinct hasId
 inserted-distinct r [] h n = refl
-inserted-distinct r (a ∷ rs) h n = go (precedes r a) (inserted-distinct r rs (and-right (not (hasId (a .report .id) rs)) (idsDistinct rs) h) (no-id-rest (r .report .id) a rs n))
+inserted-distinct r (a ∷ rs) h n = go (precedes r a) (inserted-distinct r rs (and-right (not (hasId (a .report .id) rs)) (idsDistinct rs) h) (rest-other (r .report .id) a rs n))
   where
     other : eqZ (r .report .id) (a .report .id) ≡ false
     other = same-comm (r .report .id) (a .report .id) ∙ no-id (r .report .id) (a ∷ rs) n a (inl refl)
@@ -370,27 +237,6 @@ inserted-distinct r (a ∷ rs) h n = go (precedes r a) (inserted-distinct r rs (
     go false i =
         let x : hasId (a .report .id) (inserted r rs) ≡ false = has-inserted (a .report .id) r rs ∙ rw (other, alone) in
         and-true (not (hasId (a .report .id) (inserted r rs))) (idsDistinct (inserted r rs)) (ap not x) i
-
-removed-has : (x id : ℤ) (rs : List Record) → hasId x rs ≡ false → hasId x (removed id rs) ≡ false
-unfolding removed hasId
-removed-has x id [] h = h
-removed-has x id (a ∷ rs) h = go (eqZ (a .report .id) id) (removed-has x id rs (or-none (eqZ (a .report .id) x) (hasId x rs) h .1))
-  where
-    go : (b : Bool) → hasId x (removed id rs) ≡ false → hasId x (cond b rs (a ∷ removed id rs)) ≡ false
-    go true i = or-none (eqZ (a .report .id) x) (hasId x rs) h .1
-    go false i = rw (or-none (eqZ (a .report .id) x) (hasId x rs) h .0) i
-
-pub removed-distinct : (id : ℤ) (rs : List Record) → idsDistinct rs ≡ true → idsDistinct (removed id rs) ≡ true
-unfolding removed idsDistinct
-removed-distinct id [] h = h
-removed-distinct id (a ∷ rs) h = go (eqZ (a .report .id) id) (removed-distinct id rs (and-right (not (hasId (a .report .id) rs)) (idsDistinct rs) h))
-  where
-    alone : hasId (a .report .id) rs ≡ false
-    alone = not-none (hasId (a .report .id) rs) (and-left (not (hasId (a .report .id) rs)) (idsDistinct rs) h)
-
-    go : (b : Bool) → idsDistinct (removed id rs) ≡ true → idsDistinct (cond b rs (a ∷ removed id rs)) ≡ true
-    go true i = and-right (not (hasId (a .report .id) rs)) (idsDistinct rs) h
-    go false i = and-true (not (hasId (a .report .id) (removed id rs))) (idsDistinct (removed id rs)) (ap not (removed-has (a .report .id) id rs alone)) i
 
 -- records put in one after the other, whose ids differ from one another and from those there
 record Apart (ds ks : List Record) : Type 0 where
@@ -423,7 +269,7 @@ step-apart c later (a ∷ rs) h = go (livesOn c later a) (step-apart c later rs 
     alone = not-none (hasId (a .report .id) rs) (and-left (not (hasId (a .report .id) rs)) (idsDistinct rs) h)
 
     both : (hasId (a .report .id) (replaced c later rs) ≡ false) × (hasId (a .report .id) (kept c later rs) ≡ false)
-    both = or-none (hasId (a .report .id) (replaced c later rs)) (hasId (a .report .id) (kept c later rs)) (has-step (a .report .id) c later rs ∙ alone)
+    both = or-neither (hasId (a .report .id) (replaced c later rs)) (hasId (a .report .id) (kept c later rs)) (has-step (a .report .id) c later rs ∙ alone)
 
     go : (b : Bool) → (Apart (replaced c later rs) (kept c later rs)) × (idsDistinct (kept c later rs) ≡ true) → (Apart (cond b (replaced c later rs) (placedIn later (a .report) ∷ replaced c later rs)) (cond b (a ∷ kept c later rs) (kept c later rs))) × (idsDistinct (cond b (a ∷ kept c later rs) (kept c later rs)) ≡ true)
     go true i = (
@@ -446,8 +292,3 @@ pub stepped-sorted : (c later : ℕ) (rs : List Record) → isSorted rs ≡ true
 stepped-sorted c later rs s h =
     let a = step-apart c later rs h in
     all-kept (replaced c later rs) (kept c later rs) (a .0) (kept-sorted c later rs s) (a .1) .0
-
-pub stepped-distinct : (c later : ℕ) (rs : List Record) → isSorted rs ≡ true → idsDistinct rs ≡ true → idsDistinct (steppedRecords c later rs) ≡ true
-stepped-distinct c later rs s h =
-    let a = step-apart c later rs h in
-    all-kept (replaced c later rs) (kept c later rs) (a .0) (kept-sorted c later rs s) (a .1) .1

@@ -13,7 +13,7 @@ use lib.Signed.{leZ, ltZ}
 use borrow.Author.Tests.{not-true}
 use Rattle.ints.specs.Whole.{eqZ}
 use Rattle.ints.proofs.Parts.{signed, true-false}
-use Rattle.ints.proofs.Truth.{and-true, and-left, and-right}
+use Rattle.ints.proofs.Truth.{and-true, and-left, and-right, or-right, or-neither, or-swap}
 use Rattle.ints.proofs.Same.{same-not, same-comm}
 use Rattle.records.specs.Order.{precedes, isSorted, hasId}
 use Rattle.records.specs.Soundness.{idsDistinct}
@@ -21,18 +21,6 @@ use Rattle.store.specs.Changes.{inserted, insertedAll, removed, placedIn
 use Rattle.records.specs.declared.Record.{Record}
 
 -- ---- the order of two records
-
-or-right : (a b : Bool) → b ≡ true → a || b ≡ true
-or-right true b e = refl
-or-right false b e = e
-
-or-false-left : (a b : Bool) → a || b ≡ false → a ≡ false
-or-false-left true b e = e
-or-false-left false b e = refl
-
-or-false-right : (a b : Bool) → a || b ≡ false → b ≡ false
-or-false-right true b e = absurd (true-false e)
-or-false-right false b e = e
 
 -- the same key, and the lesser id
 pub record Tied (a b : Record) : Type 0 where
@@ -101,7 +89,7 @@ unfolding precedes eqZ
 precedes-total a b n h = go (ltZ (b .key) (a .key)) refl
   where
     up : ltZ (a .key) (b .key) ≡ false
-    up = or-false-left _ (eqZ (a .key) (b .key) && ltZ (a .report .id) (b .report .id)) h
+    up = or-neither _ (eqZ (a .key) (b .key) && ltZ (a .report .id) (b .report .id)) h .0
 
     go : (t : Bool) → ltZ (b .key) (a .key) ≡ t → precedes b a ≡ true
     go true e = by-key b a e
@@ -109,7 +97,7 @@ precedes-total a b n h = go (ltZ (b .key) (a .key)) refl
         let x : leZ (a .key) (b .key) ≡ true = omega (arith, signed, e) in
         let y : leZ (b .key) (a .key) ≡ true = omega (arith, signed, up) in
         let same : eqZ (a .key) (b .key) ≡ true = and-true _ _ x y in
-        let i : ltZ (a .report .id) (b .report .id) ≡ false = rw same at (or-false-right (ltZ (a .key) (b .key)) _ h) in
+        let i : ltZ (a .report .id) (b .report .id) ≡ false = rw same at (or-neither (ltZ (a .key) (b .key)) _ h .1) in
         by-id b a (record { not-above = y; not-below = x; ids = other-id (a .report .id) (b .report .id) n i })
 
 -- ---- lists in order
@@ -158,11 +146,6 @@ inserted-length r (a ∷ rs) = go (precedes r a) (inserted-length r rs)
     go true e = refl
     go false e = ap suc e
 
-or-swap : (a b x : Bool) → a || (b || x) ≡ b || (a || x)
-or-swap true true x = refl
-or-swap true false x = refl
-or-swap false b x = refl
-
 pub has-inserted : (id : ℤ) (r : Record) (rs : List Record) → hasId id (inserted r rs) ≡ eqZ (r .report .id) id || hasId id rs
 unfolding inserted hasId
 has-inserted id r [] = refl
@@ -189,14 +172,14 @@ inserted-from {x} r (a ∷ rs) m = go (precedes r a) (inserted-from r rs) m
 -- the first of some records has another id, and so have the rest
 first-id : (id : ℤ) (a : Record) (rs : List Record) → hasId id (a ∷ rs) ≡ false → eqZ (a .report .id) id ≡ false
 unfolding hasId
-first-id id a rs h = or-false-left _ (hasId id rs) h
+first-id id a rs h = or-neither _ (hasId id rs) h .0
 
 first-other : (r a : Record) (rs : List Record) → hasId (r .report .id) (a ∷ rs) ≡ false → eqZ (r .report .id) (a .report .id) ≡ false
 first-other r a rs h = same-comm (r .report .id) (a .report .id) ∙ first-id (r .report .id) a rs h
 
-rest-other : (id : ℤ) (a : Record) (rs : List Record) → hasId id (a ∷ rs) ≡ false → hasId id rs ≡ false
+pub rest-other : (id : ℤ) (a : Record) (rs : List Record) → hasId id (a ∷ rs) ≡ false → hasId id rs ≡ false
 unfolding hasId
-rest-other id a rs h = or-false-right (eqZ (a .report .id) id) _ h
+rest-other id a rs h = or-neither (eqZ (a .report .id) id) _ h .1
 
 pub ascending-inserted : (r : Record) (rs : List Record) → hasId (r .report .id) rs ≡ false → Ascending rs → Ascending (inserted r rs)
 unfolding inserted
@@ -275,12 +258,6 @@ distinct-inserted r (a ∷ rs) n d =
 
 -- ---- a record taken out
 
-pub removed-none : (id : ℤ) (rs : List Record) → hasId id rs ≡ false → removed id rs ≡ rs
-unfolding removed
-removed-none id [] n = refl
-removed-none id (a ∷ rs) n =
-    rw (first-id id a rs n) (ap (λ (l : List Record). a ∷ l) (removed-none id rs (rest-other id a rs n)))
-
 -- the record that was put in, taken out
 pub removed-same : (id : ℤ) (r : Record) (rs : List Record) → eqZ (r .report .id) id ≡ true → hasId id rs ≡ false → removed id (inserted r rs) ≡ rs
 unfolding removed inserted
@@ -290,15 +267,6 @@ removed-same id r (a ∷ rs) e n = go (precedes r a) (removed-same id r rs e (re
     go : (t : Bool) → removed id (inserted r rs) ≡ rs → removed id (cond t (r ∷ a ∷ rs) (a ∷ inserted r rs)) ≡ a ∷ rs
     go true k = rw e
     go false k = rw (first-id id a rs n, k)
-
-after-removed : (r : Record) (id : ℤ) (rs : List Record) → AllAfter r rs → AllAfter r (removed id rs)
-unfolding removed
-after-removed r id [] o = tt
-after-removed r id (a ∷ rs) o = go (eqZ (a .report .id) id) (after-removed r id rs (o .1))
-  where
-    go : (t : Bool) → AllAfter r (removed id rs) → AllAfter r (cond t rs (a ∷ removed id rs))
-    go true k = o .1
-    go false k = (o .0, k)
 
 -- another taken out, before or after
 pub removed-other : (id : ℤ) (r : Record) (rs : List Record) → eqZ (r .report .id) id ≡ false → Ascending rs → removed id (inserted r rs) ≡ inserted r (removed id rs)

@@ -3,7 +3,7 @@
 use mathlib.Core.Path.{_≡_, refl, sym, ap, _∙_}
 use mathlib.Core.Bool.{Bool, true, false, cond}
 use mathlib.Core.List.{List, [], _∷_, _++_, append-assoc, append-nil}
-use Prim.Native.Nat.{ℕ, suc, _+_, _-_, _*_, _≤_, _<_}
+use Prim.Native.Nat.{ℕ, _+_, _-_, _*_, _≤_, _<_}
 use native.Mathlib.Omega.{arith}
 use lib.IntN.{ℤ, pos}
 use lib.ListN.{length, set, take, drop, replicate, length-append, length-take, length-drop, length-set, replicate-append-replicate}
@@ -12,9 +12,9 @@ use Rattle.ints.proofs.Truth.{and-true, and-left, and-right}
 use Rattle.grid.specs.Units.{capacity}
 use Rattle.rows.specs.Table.{tableWords, withRow, withSpeed}
 use Rattle.records.specs.Records.{recordWords, storeWords, recordFrom, nowOf, heldOf, readRecords, recordsOf, wordsOf, wordsOfAll, header, storeOf}
-use Rattle.records.specs.Order.{slotOfKey, numberOfKey, precedes}
+use Rattle.records.specs.Order.{slotOfKey, numberOfKey}
 use Rattle.records.specs.Soundness.{isRanged, allRanged, IsStore}
-use Rattle.store.specs.Changes.{inserted, insertedAll, placedIn, livesOn, kept, replaced, steppedRecords, withSpeeds}
+use Rattle.store.specs.Changes.{insertedAll, placedIn, livesOn, kept, replaced, steppedRecords, withSpeeds}
 use Rattle.records.specs.Places.{HasWords}
 use Rattle.store.specs.Walks.{KeptFirst, Taken, PlaceAsked}
 use Rattle.records.specs.declared.Record.{Record}
@@ -23,6 +23,7 @@ use Rattle.records.proofs.SoundLawsRanges.{ranged-parts, parts-ranged}
 use Rattle.records.proofs.SoundLawsKeys.{key-in-below}
 use Rattle.records.proofs.PlaceLaws.{record-at, store-room}
 use Rattle.store.proofs.ChangeLaws.{left-at, words-append}
+use Rattle.store.proofs.MergeLaws.{no-records}
 use Rattle.records.proofs.PlaceLaws.{read-later, rest-at}
 
 -- the records from record i on
@@ -302,15 +303,6 @@ taken-out s₀ s ys s′ c later n k q en f ls ey es =
 
 -- ---- records put in, and their rows widened
 
-pub inserted-length : (r : Record) (rs : List Record) → length (inserted r rs) ≡ suc (length rs)
-unfolding inserted
-inserted-length r [] = refl
-inserted-length r (a ∷ rs) = go (precedes r a) (inserted-length r rs)
-  where
-    go : (b : Bool) → length (inserted r rs) ≡ suc (length rs) → length (cond b (r ∷ a ∷ rs) (a ∷ inserted r rs)) ≡ suc (suc (length rs))
-    go true h = refl
-    go false h = ap suc h
-
 table-length : (t : List ℤ) (slot number : ℕ) (vx vy : ℤ) → length (withSpeed t slot number vx vy) ≡ length t
 unfolding withRow
 table-length t slot number vx vy = simp length-set
@@ -348,10 +340,6 @@ module _ (t₀ dead : List ℤ) (m : ℕ) (t : List ℤ) (j : ℕ) (p : Widen t�
         table-is = p .table-is ∙ ap (withSpeeds t) rest-here ∙ ap (λ (q : List ℤ). withSpeeds q rest) (sym et);
         ranged = and-right (isRanged r) (allRanged rest) rest-ranged;
       }
-
-no-records : (n : ℕ) (w : List ℤ) → n ≡ 0 → readRecords n w ≡ []
-unfolding readRecords
-no-records n w e = rw e
 
 inserted-none : (rs : List Record) → insertedAll [] rs ≡ rs
 unfolding insertedAll
