@@ -3,12 +3,16 @@
 use mathlib.Core.Path.{_≡_, refl, sym, ap, subst, _∙_}
 use mathlib.Core.Bool.{Bool, true, false}
 use mathlib.Core.List.{List, [], _∷_, _++_}
-use Prim.Native.Nat.{ℕ, _+_, _-_, _<_, _≤_}
+use Prim.Native.Nat.{ℕ, suc, _+_, _-_, _^_, _<_, _≤_}
 use native.Mathlib.Omega.{arith}
-use lib.IntN.{ℤ, pos}
+use lib.Dec.{eqb}
+use lib.IntN.{ℤ, pos, negsuc}
+use lib.Signed.{mag, leZ}
 use lib.ListN.{length, take, drop, length-drop}
-use lib.Seq.{take-all, take-add}
-use borrow.Author.Tests.{eq-eqb}
+use lib.Seq.{take-add, length-take-le}
+use mir.Syntax.{w64}
+use mir.Val.{bits, hbits, ofZ}
+use borrow.Author.Tests.{eq-eqb, ne-eqb, leb-true, leb-false}
 use Rattle.ints.proofs.Parts.{true-false}
 use Rattle.rows.specs.Table.{tableWords}
 use Rattle.store.specs.Records.{storeWords}
@@ -17,14 +21,18 @@ use Rattle.ledger.specs.Refusals.{firstToFail}
 use Rattle.ledger.specs.Machine.{Ledger, opened}
 use Rattle.ledger.specs.Calls as L
 use Rattle.ledger.specs.declared.Answer.{Answer}
+use Rattle.libc.specs.Io.{Moved}
+use Rattle.io.specs.Counts.{clamped}
 use Rattle.engine.specs.Index.{settled, openOut}
 use Rattle.engine.specs.Gives.{Gives}
 use Rattle.history.specs.Index as H
 use Rattle.history.specs.Points.{Point}
 use Rattle.replay.specs.Replay.{listLength}
-use Rattle.replay.specs.Session.{Session, begun, sessionAfter, wordsIn, lineBytes, answerBytes, Stands, CanFeed, Feeds, InSession, TakesChunk}
+use Rattle.replay.specs.Session.{Session, begun, sessionAfter, wordsIn, lineBytes, answerBytes, Stands, CanFeed, Feeds, Ends, Ready, TakesChunk, TakesRead, isEnd, AnswersRead, Runs, Replays}
 use Rattle.replay.specs.declared.feeding.Fed.{Fed}
 use Rattle.replay.specs.declared.Turn.{Turn}
+use Rattle.replay.specs.declared.Stop.{Stop}
+use Rattle.replay.proofs.FeedLaws.{alone}
 use Rattle.replay.proofs.Claims.{chunks-are-one-input}
 
 -- ---- the start
@@ -53,47 +61,49 @@ module _ (store table : List ℤ) (long : length store ≡ storeWords) (wide : l
     ledger-is = ledger;
   }
 
-pub begun-session : (store table : List ℤ) (list line : List ℕ) → Point (opened (pos 0)) (wordsIn store table) → length list ≡ listLength → length line ≡ lineBytes → InSession store table list line 0
-begun-session store table list line p long line-long = record {
-  session = begun;
-  stands = record { point = p; few = omega arith; begins = refl; long = line-long };
-  list-long = long;
-}
+-- so the buffers stand for the session before the first byte
+pub begun-stands : (store table : List ℤ) (line : List ℕ) → Point (opened (pos 0)) (wordsIn store table) → length line ≡ lineBytes → Stands begun store table line 0
+begun-stands store table line p long = record { point = p; few = omega arith; begins = refl; long = long }
 
 -- ---- a chunk
 
-pub can-feed : (store table : List ℤ) (list line : List ℕ) (used : ℕ) (out : List ℕ) → InSession store table list line used → 65536 ≡ length out → CanFeed store table list line used out
+pub can-feed : (store table : List ℤ) (list line : List ℕ) (used : ℕ) (out : List ℕ) → Ready store table list line used → answerBytes ≤ length out → CanFeed store table list line used out
 can-feed store table list line used out i e = record {
-  at-point = record { ledger = i .session .ledger; point = i .stands .point };
+  at-point = i .at-point;
   list-long = i .list-long;
-  line-long = i .stands .long;
-  few = i .stands .few;
-  room = omega arith;
+  line-long = i .line-long;
+  few = i .few;
+  room = e;
 }
+
+-- the session of the bytes held, by themselves, goes on, so its buffers are ready again
+ready-then : (store table store′ table′ : List ℤ) (list list′ line line′ : List ℕ) (used used′ : ℕ) (input : List ℕ) → Ready store table list line used → length list′ ≡ length list → ((s : Session) → Stands s store table line used → Stands (sessionAfter s input) store′ table′ line′ used′) → Ready store′ table′ list′ line′ used′
+ready-then store table store′ table′ list list′ line line′ used used′ input i kept f =
+    let own : Session = record { ledger = i .at-point .ledger; line = take used line } in
+    let k = f own (alone store table line used (i .at-point) (i .line-long) (i .few)) in
+    record {
+      at-point = record { ledger = sessionAfter own input .ledger; point = k .point };
+      list-long = kept ∙ i .list-long;
+      line-long = k .long;
+      few = k .few;
+    }
 
 module _ (chunk : List ℕ) (store₀ table₀ : List ℤ) (line₀ : List ℕ) (used₀ : ℕ) where
   -- after the bytes before `from`
   pub record Through (store table : List ℤ) (list line : List ℕ) (used from : ℕ) : Type 0 where
-    pub here : InSession store table list line used
+    pub ready : Ready store table list line used
     pub within : from ≤ length chunk
     pub stands : (s : Session) → Stands s store₀ table₀ line₀ used₀ → Stands (sessionAfter s (take from chunk)) store table line used
 
-  pub through-begins : (list : List ℕ) → InSession store₀ table₀ list line₀ used₀ → Through store₀ table₀ list line₀ used₀ 0
+  pub through-begins : (list : List ℕ) → Ready store₀ table₀ list line₀ used₀ → Through store₀ table₀ list line₀ used₀ 0
   unfolding sessionAfter
-  through-begins list i = record { here = i; within = omega arith; stands = λ s k. k }
+  through-begins list i = record { ready = i; within = omega arith; stands = λ s k. k }
 
   module _ (store table : List ℤ) (list line : List ℕ) (used from : ℕ) (t : Through store table list line used from) where
     module _ (store′ table′ : List ℤ) (list′ line′ out′ : List ℕ) (fed : Fed) (kept : length list′ ≡ length list) (f : Feeds (drop from chunk) store table store′ table′ line line′ out′ used fed) where
-      pub session-then : InSession store′ table′ list′ line′ (fed .held)
-      session-then = record {
-        session = sessionAfter (t .here .session) (take (fed .taken) (drop from chunk));
-        stands = f .stands (t .here .session) (t .here .stands);
-        list-long = kept ∙ t .here .list-long;
-      }
-
       pub through-more : Through store′ table′ list′ line′ (fed .held) (from + fed .taken)
       through-more = record {
-        here = session-then;
+        ready = ready-then store table store′ table′ list list′ line line′ used (fed .held) (take (fed .taken) (drop from chunk)) (t .ready) kept (f .stands);
         within = let w = f .within in let d = length-drop from chunk in let k = t .within in omega arith;
         stands = λ s k.
             subst (λ (x : Session). Stands x store′ table′ line′ (fed .held))
@@ -104,14 +114,122 @@ module _ (chunk : List ℕ) (store₀ table₀ : List ℤ) (line₀ : List ℕ) 
       pub through-further : from < length chunk → 0 < fed .taken
       through-further h = f .goes-on (let d = length-drop from chunk in omega arith)
 
-      pub through-fits : fed .filled ≤ length out′
-      through-fits = f .fits
-
-      pub through-stops : TakesChunk chunk store₀ table₀ store′ table′ list′ line₀ line′ used₀ (record { held = fed .held; more = false })
-      through-stops = record { goes-on = session-then; stands = λ e. absurd (true-false (sym e)) }
-
-    pub through-ends : length chunk ≤ from → TakesChunk chunk store₀ table₀ store table list line₀ line used₀ (record { held = used; more = true })
-    through-ends h = record {
-      goes-on = t .here;
-      stands = λ e s k. subst (λ (x : List ℕ). Stands (sessionAfter s x) store table line used) (take-all from chunk h) (t .stands s k);
+    -- a write failed
+    pub through-stops : TakesChunk chunk store₀ table₀ store table list line₀ line used₀ (record { got = length chunk; taken = from; held = used; more = false; ended = false })
+    through-stops = record {
+      ready = t .ready;
+      got-is = refl;
+      within = t .within;
+      all = λ e. absurd (true-false (sym e));
+      ends = λ e. absurd (true-false (sym e));
+      stands = t .stands;
     }
+
+    pub through-ends : length chunk ≤ from → TakesChunk chunk store₀ table₀ store table list line₀ line used₀ (record { got = from; taken = from; held = used; more = true; ended = false })
+    through-ends h = record {
+      ready = t .ready;
+      got-is = let k = t .within in omega arith;
+      within = t .within;
+      all = λ e. let k = t .within in omega arith;
+      ends = λ e. absurd (true-false (sym e));
+      stands = t .stands;
+    }
+
+-- ---- what a read gave
+
+-- what the test of its number says
+no-bytes : (got : ℤ) (n : ℕ) → leZ got (pos 0) ≡ true → clamped got n ≡ 0
+no-bytes (pos k) n e = let h = leb-true k 0 e in omega arith
+no-bytes (negsuc k) n e = refl
+
+end-told : (got : ℤ) → mag got < 2 ^ hbits w64 → eqb (ofZ w64 got) 0 ≡ isEnd got
+end-told (pos k) h = refl
+end-told (negsuc k) h = ne-eqb (2 ^ bits w64 - suc k) 0 (λ e. omega arith)
+
+not-none : (b : Bool) → (b ≡ true → ⊥) → b ≡ false
+not-none true never = absurd (never refl)
+not-none false never = refl
+
+module _ (chunk : List ℕ) (store table : List ℤ) (list line : List ℕ) (used : ℕ) where
+  -- nothing
+  pub nothing-read : (got : ℤ) → mag got < 2 ^ hbits w64 → leZ got (pos 0) ≡ true → Ready store table list line used → AnswersRead got chunk store table store table list line line used (record { got = 0; taken = 0; held = used; more = false; ended = eqb (ofZ w64 got) 0 })
+  unfolding sessionAfter
+  nothing-read got h e i = record {
+    reads = record {
+      takes = record {
+        ready = i;
+        got-is = refl;
+        within = omega arith;
+        all = λ m. absurd (true-false (sym m));
+        ends = λ m. refl;
+        stands = λ s k. k;
+      };
+      goes-on = λ m. absurd (true-false (sym m));
+    };
+    got-is = sym (no-bytes got (length chunk) e);
+    ended-is = end-told got h;
+  }
+
+  -- bytes, answered as a chunk
+  pub some-read : (got : ℤ) (n : ℕ) → leZ got (pos 0) ≡ false → Moved (length chunk) got → n ≡ clamped got (length chunk) → (store′ table′ : List ℤ) (list′ line′ : List ℕ) (turn : Turn) → TakesChunk (take n chunk) store table store′ table′ list′ line line′ used turn → AnswersRead got chunk store table store′ table′ list′ line line′ used turn
+  some-read (negsuc k) n e w is store′ table′ list′ line′ turn t = absurd (true-false e)
+  some-read (pos k) n e w is store′ table′ list′ line′ turn t =
+      let h = leb-false k 0 e in
+      let many : n ≡ k = omega arith in
+      let long : length (take n chunk) ≡ n = length-take-le n chunk (omega arith) in
+      let gave : turn .got ≡ n = t .got-is ∙ long in
+      record {
+        reads = record { takes = subst (λ (x : ℕ). TakesChunk (take x chunk) store table store′ table′ list′ line line′ used turn) (sym gave) t; goes-on = λ m. omega arith };
+        got-is = gave ∙ is;
+        ended-is = not-none (turn .ended) (λ m. let z = t .ends m in omega arith) ∙ sym (ne-eqb k 0 (λ z. omega arith));
+      }
+
+-- ---- one read after another
+
+module _ (store₀ table₀ : List ℤ) (line₀ : List ℕ) (used₀ : ℕ) where
+  -- after some turns
+  pub record Ran (store table : List ℤ) (list line : List ℕ) (used : ℕ) : Type 0 where
+    pub ready : Ready store table list line used
+    pub input : List ℕ
+    pub stands : (s : Session) → Stands s store₀ table₀ line₀ used₀ → Stands (sessionAfter s input) store table line used
+
+  pub ran-none : (list : List ℕ) → Ready store₀ table₀ list line₀ used₀ → Ran store₀ table₀ list line₀ used₀
+  unfolding sessionAfter
+  ran-none list i = record { ready = i; input = []; stands = λ s k. k }
+
+  module _ (store table : List ℤ) (list line : List ℕ) (used : ℕ) (r : Ran store table list line used) where
+    pub ran-more : (chunk : List ℕ) (store′ table′ : List ℤ) (list′ line′ : List ℕ) (turn : Turn) → TakesRead chunk store table store′ table′ list′ line line′ used turn → Ran store′ table′ list′ line′ (turn .held)
+    ran-more chunk store′ table′ list′ line′ turn t =
+        let came = take (turn .taken) (take (turn .got) chunk) in
+        record {
+          ready = t .takes .ready;
+          input = r .input ++ came;
+          stands = λ s k.
+              subst (λ (x : Session). Stands x store′ table′ line′ (turn .held))
+              (sym (chunks-are-one-input s (r .input) came .session-is))
+              (t .takes .stands (sessionAfter s (r .input)) (r .stands s k));
+        }
+
+    pub ran-stops : (ended : Bool) → Runs store₀ table₀ store table list line₀ line used₀ (record { held = used; ended = ended })
+    ran-stops ended = record { ready = r .ready; input = r .input; stands = r .stands }
+
+-- ---- the whole program
+
+module _ (store table store′ table′ : List ℤ) (list′ line line′ : List ℕ) (stop : Stop) (b : Stands begun store table line 0) (r : Runs store table store′ table′ list′ line line′ 0 stop) where
+  -- a read or a write failed
+  pub replays-stopped : (out : List ℕ) → Replays store′ table′ line′ out (record { held = stop .held; ended = false; filled = 0 })
+  replays-stopped out = record {
+    input = r .input;
+    stands = λ e. r .stands begun b;
+    leads = λ e. absurd (true-false (sym e));
+    writes = λ e. absurd (true-false (sym e));
+  }
+
+  -- the input has ended
+  pub replays-ended : (store″ table″ : List ℤ) (line″ out″ : List ℕ) (filled : ℕ) → Ends store′ table′ store″ table″ line′ out″ (stop .held) filled → Replays store″ table″ line″ out″ (record { held = 0; ended = true; filled = filled })
+  replays-ended store″ table″ line″ out″ filled f = record {
+    input = r .input;
+    stands = λ e. absurd (true-false e);
+    leads = λ e. f .leads (sessionAfter begun (r .input)) (r .stands begun b);
+    writes = λ e. f .writes (sessionAfter begun (r .input)) (r .stands begun b);
+  }

@@ -119,7 +119,7 @@ pub fn finish(
     out: &mut [u8],
 ) -> usize
     requires { ⌜ CanFeed (now store) (now table) (now list) (now line) held (now out) ⌝ }
-    ensures { λ r. ⌜ Ends (now (store .entry)) (now (table .entry)) (now (line .entry)) (now (out .exit)) held r ⌝ }
+    ensures { λ r. ⌜ Ends (now (store .entry)) (now (table .entry)) (now (store .exit)) (now (table .exit)) (now (line .entry)) (now (out .exit)) held r ⌝ }
 {
     if held == 0 {
         return 0;
