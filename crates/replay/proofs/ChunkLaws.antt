@@ -1,18 +1,18 @@
 -- What the functions that read and write rest on: an opened index is at a point, and what is taken of a chunk bit by bit is taken of it as a whole.
 -- Assumes nothing.
-use mathlib.Core.Path.{_≡_, refl, sym, ap, subst, _∙_}
-use mathlib.Core.Bool.{Bool, true, false}
+use mathlib.Core.Path.{_≡_, refl, sym, ap, ap₂, subst, _∙_}
+use mathlib.Core.Bool.{Bool, true, false, not}
 use mathlib.Core.List.{List, [], _∷_, _++_}
 use Prim.Native.Nat.{ℕ, suc, _+_, _-_, _^_, _<_, _≤_}
 use native.Mathlib.Omega.{arith}
 use lib.Dec.{eqb}
 use lib.IntN.{ℤ, pos, negsuc}
 use lib.Signed.{mag, leZ}
-use lib.ListN.{length, take, drop, length-drop}
+use lib.ListN.{length, take, drop, length-append, length-take, length-drop}
 use lib.Seq.{take-add, length-take-le}
 use mir.Syntax.{w64}
 use mir.Val.{bits, hbits, ofZ}
-use borrow.Author.Tests.{eq-eqb, ne-eqb, leb-true, leb-false}
+use borrow.Author.Tests.{eq-eqb, ne-eqb, leb-true, leb-false, not-false}
 use Rattle.ints.proofs.Parts.{true-false}
 use Rattle.rows.specs.Table.{tableWords}
 use Rattle.store.specs.Records.{storeWords}
@@ -28,7 +28,7 @@ use Rattle.engine.specs.Gives.{Gives}
 use Rattle.history.specs.Index as H
 use Rattle.history.specs.Points.{Point}
 use Rattle.replay.specs.Replay.{listLength}
-use Rattle.replay.specs.Session.{Session, begun, sessionAfter, wordsIn, lineBytes, answerBytes, Stands, CanFeed, Feeds, Ends, Ready, TakesChunk, TakesRead, isEnd, AnswersRead, Runs, Replays}
+use Rattle.replay.specs.Session.{Session, begun, sessionAfter, wordsIn, lineBytes, answerBytes, Stands, CanFeed, Feeds, Ends, Ready, Begins, TakesChunk, TakesRead, isEnd, AnswersRead, Runs, Replays}
 use Rattle.replay.specs.declared.feeding.Fed.{Fed}
 use Rattle.replay.specs.declared.Turn.{Turn}
 use Rattle.replay.specs.declared.Stop.{Stop}
@@ -50,8 +50,8 @@ module _ (store table : List ℤ) (long : length store ≡ storeWords) (wide : l
   unfolding L.after H.fedAll
   ledger = refl
 
-  pub begun-at-point : (store′ table′ : List ℤ) (a : Answer) → Gives (openOut store table (pos 0)) a store′ table′ → Point (opened (pos 0)) (wordsIn store′ table′)
-  begun-at-point store′ table′ a g = record {
+  at-start : (store′ table′ : List ℤ) (a : Answer) → Gives (openOut store table (pos 0)) a store′ table′ → Point (opened (pos 0)) (wordsIn store′ table′)
+  at-start store′ table′ a g = record {
     lent-store = store;
     lent-table = table;
     time = pos 0;
@@ -61,9 +61,27 @@ module _ (store table : List ℤ) (long : length store ≡ storeWords) (wide : l
     ledger-is = ledger;
   }
 
+  pub begins : (store′ table′ : List ℤ) (a : Answer) → length store′ ≡ length store → length table′ ≡ length table → Gives (openOut store table (pos 0)) a store′ table′ → Begins store′ table′
+  begins store′ table′ a same wider g = record {
+    point = at-start store′ table′ a g;
+    at-point = record { ledger = opened (pos 0); point = at-start store′ table′ a g };
+    store-long = same ∙ long;
+    table-long = wider ∙ wide;
+  }
+
 -- so the buffers stand for the session before the first byte
-pub begun-stands : (store table : List ℤ) (line : List ℕ) → Point (opened (pos 0)) (wordsIn store table) → length line ≡ lineBytes → Stands begun store table line 0
-begun-stands store table line p long = record { point = p; few = omega arith; begins = refl; long = long }
+pub begun-stands : (store table : List ℤ) (line : List ℕ) → Begins store table → length line ≡ lineBytes → Stands begun store table line 0
+begun-stands store table line b long = record { point = b .point; few = omega arith; begins = refl; long = long }
+
+pub begun-ready : (store table : List ℤ) (list line : List ℕ) → Begins store table → length list ≡ listLength → length line ≡ lineBytes → Ready store table list line 0
+begun-ready store table list line b list-long line-long = record {
+  at-point = b .at-point;
+  store-long = b .store-long;
+  table-long = b .table-long;
+  list-long = list-long;
+  line-long = line-long;
+  few = omega arith;
+}
 
 -- ---- a chunk
 
@@ -77,12 +95,14 @@ can-feed store table list line used out i e = record {
 }
 
 -- the session of the bytes held, by themselves, goes on, so its buffers are ready again
-ready-then : (store table store′ table′ : List ℤ) (list list′ line line′ : List ℕ) (used used′ : ℕ) (input : List ℕ) → Ready store table list line used → length list′ ≡ length list → ((s : Session) → Stands s store table line used → Stands (sessionAfter s input) store′ table′ line′ used′) → Ready store′ table′ list′ line′ used′
-ready-then store table store′ table′ list list′ line line′ used used′ input i kept f =
+ready-then : (store table store′ table′ : List ℤ) (list list′ line line′ : List ℕ) (used used′ : ℕ) (input : List ℕ) → Ready store table list line used → length store′ ≡ length store → length table′ ≡ length table → length list′ ≡ length list → ((s : Session) → Stands s store table line used → Stands (sessionAfter s input) store′ table′ line′ used′) → Ready store′ table′ list′ line′ used′
+ready-then store table store′ table′ list list′ line line′ used used′ input i same wide kept f =
     let own : Session = record { ledger = i .at-point .ledger; line = take used line } in
     let k = f own (alone store table line used (i .at-point) (i .line-long) (i .few)) in
     record {
       at-point = record { ledger = sessionAfter own input .ledger; point = k .point };
+      store-long = same ∙ i .store-long;
+      table-long = wide ∙ i .table-long;
       list-long = kept ∙ i .list-long;
       line-long = k .long;
       few = k .few;
@@ -100,10 +120,10 @@ module _ (chunk : List ℕ) (store₀ table₀ : List ℤ) (line₀ : List ℕ) 
   through-begins list i = record { ready = i; within = omega arith; stands = λ s k. k }
 
   module _ (store table : List ℤ) (list line : List ℕ) (used from : ℕ) (t : Through store table list line used from) where
-    module _ (store′ table′ : List ℤ) (list′ line′ out′ : List ℕ) (fed : Fed) (kept : length list′ ≡ length list) (f : Feeds (drop from chunk) store table store′ table′ line line′ out′ used fed) where
+    module _ (store′ table′ : List ℤ) (list′ line′ out′ : List ℕ) (fed : Fed) (same : length store′ ≡ length store) (wide : length table′ ≡ length table) (kept : length list′ ≡ length list) (f : Feeds (drop from chunk) store table store′ table′ line line′ out′ used fed) where
       pub through-more : Through store′ table′ list′ line′ (fed .held) (from + fed .taken)
       through-more = record {
-        ready = ready-then store table store′ table′ list list′ line line′ used (fed .held) (take (fed .taken) (drop from chunk)) (t .ready) kept (f .stands);
+        ready = ready-then store table store′ table′ list list′ line line′ used (fed .held) (take (fed .taken) (drop from chunk)) (t .ready) same wide kept (f .stands);
         within = let w = f .within in let d = length-drop from chunk in let k = t .within in omega arith;
         stands = λ s k.
             subst (λ (x : Session). Stands x store′ table′ line′ (fed .held))
@@ -187,48 +207,62 @@ module _ (chunk : List ℕ) (store table : List ℤ) (list line : List ℕ) (use
 -- ---- one read after another
 
 module _ (store₀ table₀ : List ℤ) (line₀ : List ℕ) (used₀ : ℕ) where
-  -- after some turns
-  pub record Ran (store table : List ℤ) (list line : List ℕ) (used : ℕ) : Type 0 where
+  -- after `taken` bytes of the chunks
+  pub record Ran (store table : List ℤ) (list line : List ℕ) (used taken : ℕ) : Type 0 where
     pub ready : Ready store table list line used
     pub input : List ℕ
+    pub many : length input ≡ taken
     pub stands : (s : Session) → Stands s store₀ table₀ line₀ used₀ → Stands (sessionAfter s input) store table line used
 
-  pub ran-none : (list : List ℕ) → Ready store₀ table₀ list line₀ used₀ → Ran store₀ table₀ list line₀ used₀
+  pub ran-none : (list : List ℕ) → Ready store₀ table₀ list line₀ used₀ → Ran store₀ table₀ list line₀ used₀ 0
   unfolding sessionAfter
-  ran-none list i = record { ready = i; input = []; stands = λ s k. k }
+  ran-none list i = record { ready = i; input = []; many = refl; stands = λ s k. k }
 
-  module _ (store table : List ℤ) (list line : List ℕ) (used : ℕ) (r : Ran store table list line used) where
-    pub ran-more : (chunk : List ℕ) (store′ table′ : List ℤ) (list′ line′ : List ℕ) (turn : Turn) → TakesRead chunk store table store′ table′ list′ line line′ used turn → Ran store′ table′ list′ line′ (turn .held)
-    ran-more chunk store′ table′ list′ line′ turn t =
-        let came = take (turn .taken) (take (turn .got) chunk) in
-        record {
-          ready = t .takes .ready;
-          input = r .input ++ came;
-          stands = λ s k.
-              subst (λ (x : Session). Stands x store′ table′ line′ (turn .held))
-              (sym (chunks-are-one-input s (r .input) came .session-is))
-              (t .takes .stands (sessionAfter s (r .input)) (r .stands s k));
-        }
+  module _ (store table : List ℤ) (list line : List ℕ) (used taken : ℕ) (r : Ran store table list line used taken) where
+    module _ (chunk : List ℕ) (store′ table′ : List ℤ) (list′ line′ : List ℕ) (turn : Turn) (t : TakesRead chunk store table store′ table′ list′ line line′ used turn) where
+      came : List ℕ
+      came = take (turn .taken) (take (turn .got) chunk)
 
-    pub ran-stops : (ended : Bool) → Runs store₀ table₀ store table list line₀ line used₀ (record { held = used; ended = ended })
-    ran-stops ended = record { ready = r .ready; input = r .input; stands = r .stands }
+      -- no more bytes came than the chunk has, and some where there is more to do
+      pub turn-within : turn .taken ≤ length chunk
+      turn-within = let w = t .takes .within in let g = length-take (turn .got) chunk in omega arith
+
+      pub turn-further : not (turn .more) ≡ false → 0 < turn .taken
+      turn-further goes = let m = not-false (turn .more) goes in let a = t .takes .all m in let g = t .takes .got-is in let h = t .goes-on m in omega arith
+
+      pub ran-more : Ran store′ table′ list′ line′ (turn .held) (taken + turn .taken)
+      unfolding came
+      ran-more = record {
+        ready = t .takes .ready;
+        input = r .input ++ came;
+        many = length-append (r .input) came ∙ ap₂ _+_ (r .many) (length-take-le (turn .taken) (take (turn .got) chunk) (t .takes .within));
+        stands = λ s k.
+            subst (λ (x : Session). Stands x store′ table′ line′ (turn .held))
+            (sym (chunks-are-one-input s (r .input) came .session-is))
+            (t .takes .stands (sessionAfter s (r .input)) (r .stands s k));
+      }
+
+    pub ran-stops : (many : ℕ) (ended : Bool) → taken ≡ many → Runs store₀ table₀ store table list line₀ line used₀ (record { taken = many; held = used; ended = ended })
+    ran-stops many ended e = record { ready = r .ready; input = r .input; many = r .many ∙ e; stands = r .stands }
 
 -- ---- the whole program
 
 module _ (store table store′ table′ : List ℤ) (list′ line line′ : List ℕ) (stop : Stop) (b : Stands begun store table line 0) (r : Runs store table store′ table′ list′ line line′ 0 stop) where
   -- a read or a write failed
-  pub replays-stopped : (out : List ℕ) → Replays store′ table′ line′ out (record { held = stop .held; ended = false; filled = 0 })
+  pub replays-stopped : (out : List ℕ) → Replays store′ table′ line′ out (record { taken = stop .taken; held = stop .held; ended = false; filled = 0 })
   replays-stopped out = record {
     input = r .input;
+    many = r .many;
     stands = λ e. r .stands begun b;
     leads = λ e. absurd (true-false (sym e));
     writes = λ e. absurd (true-false (sym e));
   }
 
   -- the input has ended
-  pub replays-ended : (store″ table″ : List ℤ) (line″ out″ : List ℕ) (filled : ℕ) → Ends store′ table′ store″ table″ line′ out″ (stop .held) filled → Replays store″ table″ line″ out″ (record { held = 0; ended = true; filled = filled })
+  pub replays-ended : (store″ table″ : List ℤ) (line″ out″ : List ℕ) (filled : ℕ) → Ends store′ table′ store″ table″ line′ out″ (stop .held) filled → Replays store″ table″ line″ out″ (record { taken = stop .taken; held = 0; ended = true; filled = filled })
   replays-ended store″ table″ line″ out″ filled f = record {
     input = r .input;
+    many = r .many;
     stands = λ e. absurd (true-false e);
     leads = λ e. f .leads (sessionAfter begun (r .input)) (r .stands begun b);
     writes = λ e. f .writes (sessionAfter begun (r .input)) (r .stands begun b);

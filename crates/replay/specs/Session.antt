@@ -9,6 +9,8 @@ use lib.Dec.{eqb}
 use lib.IntN.{ℤ, pos, negsuc}
 use lib.ListN.{length, take, drop}
 use Rattle.io.specs.Counts.{clamped}
+use Rattle.rows.specs.Table.{tableWords}
+use Rattle.store.specs.Records.{storeWords}
 use Rattle.ledger.specs.Machine.{Ledger, opened}
 use Rattle.history.specs.Index.{Words}
 use Rattle.history.specs.Points.{Point}
@@ -144,12 +146,21 @@ pub record Ends (store table store′ table′ : List ℤ) (line out′ : List �
 
 -- ---- what the functions that read and write ask and leave
 
--- at a point of some list, with a list and a line of their lengths
+-- at a point of some list, with buffers of their lengths
 pub record Ready (store table : List ℤ) (list line : List ℕ) (used : ℕ) : Type 0 where
   pub at-point : AtPoint store table
+  pub store-long : length store ≡ storeWords
+  pub table-long : length table ≡ tableWords
   pub list-long : length list ≡ listLength
   pub line-long : length line ≡ lineBytes
   pub few : used ≤ lineBytes
+
+-- opened at 0
+pub record Begins (store′ table′ : List ℤ) : Type 0 where
+  pub point : Point (opened (pos 0)) (wordsIn store′ table′)
+  pub at-point : AtPoint store′ table′
+  pub store-long : length store′ ≡ storeWords
+  pub table-long : length table′ ≡ tableWords
 
 -- the first bytes of a chunk taken, and all of it where there is more to do, whatever the session that the buffers stood for; the input ends only where
 -- there is no byte. That only a failed write leaves some is no part of this: what `write` did has no definition
@@ -177,17 +188,19 @@ pub record AnswersRead (got : ℤ) (chunk : List ℕ) (store table store′ tabl
   pub got-is : turn .got ≡ clamped got (length chunk)
   pub ended-is : turn .ended ≡ isEnd got
 
--- the session at the end is the one after some input, the bytes taken of the chunks in order, whatever the session that the buffers stood for at the start.
--- Which bytes `read` gave has no definition, so no more can be said of the input
+-- the session at the end is the one after some input, the bytes taken of the chunks in order, whatever the session that the buffers stood for at the
+-- start. The input has as many bytes as were taken; which bytes `read` gave has no definition, so no more can be said of it here
 pub record Runs (store table store′ table′ : List ℤ) (list′ line line′ : List ℕ) (used : ℕ) (stop : Stop) : Type 0 where
   pub ready : Ready store′ table′ list′ line′ (stop .held)
   pub input : List ℕ
+  pub many : length input ≡ stop .taken
   pub stands : (s : Session) → Stands s store table line used → Stands (sessionAfter s input) store′ table′ line′ (stop .held)
 
 -- the same from the start of the program. At the end of the input what is left to write stands in `out`; where a read or a write failed the line that is
 -- held is no line
 pub record Replays (store′ table′ : List ℤ) (line′ out′ : List ℕ) (done : Done) : Type 0 where
   pub input : List ℕ
+  pub many : length input ≡ done .taken
   pub stands : done .ended ≡ false → Stands (sessionAfter begun input) store′ table′ line′ (done .held)
   pub leads : done .ended ≡ true → Point (ledgerAtEnd (sessionAfter begun input)) (wordsIn store′ table′)
   pub writes : done .ended ≡ true → take (done .filled) out′ ≡ writtenAtEnd (sessionAfter begun input)

@@ -2,17 +2,13 @@
 // output. What a chunk of input is answered is written before the next chunk is read, so one who types gets an answer to each line, and the memory
 // does not grow with the input. Where a read or a write failed it stops there: a line that is cut off is no line, and gets no answer.
 ghost use mathlib.Core.Path.{_≡_};
-ghost use mathlib.Core.List.{[]};
 ghost use Prim.Native.Nat.{_≤_};
-ghost use lib.IntN.{pos};
 ghost use lib.ListN.{length};
 ghost use Rattle.libc.specs.Io.{Moved};
 ghost use Rattle.rows.specs.Table.{tableWords};
 ghost use Rattle.store.specs.Records.{storeWords};
-ghost use Rattle.history.specs.Points.{Point};
-ghost use Rattle.ledger.specs.Machine.{opened};
 ghost use Rattle.replay.specs.Replay.{listLength};
-ghost use Rattle.replay.specs.Session.{lineBytes, answerBytes, wordsIn, Ready, TakesChunk, TakesRead, AnswersRead, Runs, Replays};
+ghost use Rattle.replay.specs.Session.{lineBytes, answerBytes, Ready, Begins, TakesChunk, TakesRead, AnswersRead, Runs, Replays};
 
 mod answering;
 mod feeding;
@@ -33,14 +29,16 @@ pub struct Turn {
     pub ended: bool,
 }
 
-// How many bytes of a line are held, and whether the input has ended or something failed.
+// How many bytes were taken of all the chunks and how many of a line are held, and whether the input has ended or something failed.
 pub struct Stop {
+    pub taken: usize,
     pub held: usize,
     pub ended: bool,
 }
 
 // The same, and how many bytes the answer to a last line has that lacks its newline.
 pub struct Done {
+    pub taken: usize,
     pub held: usize,
     pub ended: bool,
     pub filled: usize,
@@ -49,7 +47,7 @@ pub struct Done {
 // The program opens at 0.
 fn begin(store: &mut [i32], table: &mut [i16])
     requires { ⌜ (length (now store) ≡ storeWords) × (length (now table) ≡ tableWords) ⌝ }
-    ensures { λ u. ⌜ Point (opened (pos 0)) (wordsIn (now (store .exit)) (now (table .exit))) ⌝ }
+    ensures { λ u. ⌜ Begins (now (store .exit)) (now (table .exit)) ⌝ }
 {
     engine::open(store, table, 0);
 }
@@ -102,7 +100,8 @@ fn answer_read(
     chunk: &[u8],
     got: isize,
 ) -> Turn
-    requires { ⌜ Ready (now store) (now table) (now list) (now line) held × Moved (length (now chunk)) got ⌝ }
+    requires { ⌜ Ready (now store) (now table) (now list) (now line) held ⌝ }
+    requires { ⌜ Moved (length (now chunk)) got ⌝ }
     ensures { λ r. ⌜ AnswersRead got (now (chunk .entry)) (now (store .entry)) (now (table .entry)) (now (store .exit)) (now (table .exit)) (now (list .exit)) (now (line .entry)) (now (line .exit)) held r ⌝ }
 {
     if got <= 0 {
@@ -135,7 +134,7 @@ fn read_once(
 }
 
 // Answers all of the input but a last line that lacks its newline. A proved loop has to end, and nothing says that the input does: each turn that
-// goes on has read a byte or more, so a run of this many turns has read at least as many bytes.
+// goes on takes a byte or more of those that are left, and no machine reads so many.
 fn run(
     store: &mut [i32],
     table: &mut [i16],
@@ -146,20 +145,25 @@ fn run(
     requires { ⌜ Ready (now store) (now table) (now list) (now line) 0 ⌝ }
     ensures { λ r. ⌜ Runs (now (store .entry)) (now (table .entry)) (now (store .exit)) (now (table .exit)) (now (list .exit)) (now (line .entry)) (now (line .exit)) 0 r ⌝ }
 {
-    let mut turns = u64::MAX;
+    let mut left = usize::MAX;
     let mut held: usize = 0;
-    while turns > 0 {
+    while chunk.len() < left {
         let t = read_once(store, table, list, line, held, chunk);
         held = t.held;
+        left -= t.taken;
         if !t.more {
             return Stop {
+                taken: usize::MAX - left,
                 held,
                 ended: t.ended,
             };
         }
-        turns -= 1;
     }
-    Stop { held, ended: false }
+    Stop {
+        taken: usize::MAX - left,
+        held,
+        ended: false,
+    }
 }
 
 // All of it, over buffers of the right lengths. Only at the end of the input is a last line that lacks its newline a line.
@@ -178,6 +182,7 @@ fn replay(
     let stop = run(store, table, list, line, chunk);
     if !stop.ended {
         return Done {
+            taken: stop.taken,
             held: stop.held,
             ended: false,
             filled: 0,
@@ -186,6 +191,7 @@ fn replay(
     let filled = finish(store, table, list, line, stop.held, out);
     write_out(&out[..filled]);
     Done {
+        taken: stop.taken,
         held: 0,
         ended: true,
         filled,

@@ -61,7 +61,7 @@ further k =
     let f = k .feed in
     let l = at-loop k .loop in
     let a = start k .args in
-    through-more (a .chunk .now) (a .store .now) (a .table .now) (a .line .now) (a .held) (l .store) (l .table) (l .list) (l .line) (l .used) (l .from) (l .inv .0) (f .last .0) (f .last .1 .0) (f .last .1 .1 .0) (f .last .1 .1 .1 .0) (f .last .1 .1 .1 .1 .1 .1 .0) (f .result) (f .kept .1 .1 .0) (feeds k)
+    through-more (a .chunk .now) (a .store .now) (a .table .now) (a .line .now) (a .held) (l .store) (l .table) (l .list) (l .line) (l .used) (l .from) (l .inv .0) (f .last .0) (f .last .1 .0) (f .last .1 .1 .0) (f .last .1 .1 .1 .0) (f .last .1 .1 .1 .1 .1 .1 .0) (f .result) (f .kept .0) (f .kept .1 .0) (f .kept .1 .1 .0) (feeds k)
 
 add-from : tie.Need-add-from Inv-loop μ-loop
 add-from c =
@@ -106,7 +106,7 @@ loop-less c =
     let l = at-loop k .loop in
     let a = start k .args in
     let t = k .before .before .before .before .before .before .before .loop-test .taken in
-    let m = through-further (a .chunk .now) (a .store .now) (a .table .now) (a .line .now) (a .held) (l .store) (l .table) (l .list) (l .line) (l .used) (l .from) (l .inv .0) (f .last .0) (f .last .1 .0) (f .last .1 .1 .0) (f .last .1 .1 .1 .0) (f .last .1 .1 .1 .1 .1 .1 .0) (f .result) (f .kept .1 .1 .0) (feeds k) t in
+    let m = through-further (a .chunk .now) (a .store .now) (a .table .now) (a .line .now) (a .held) (l .store) (l .table) (l .list) (l .line) (l .used) (l .from) (l .inv .0) (f .last .0) (f .last .1 .0) (f .last .1 .1 .0) (f .last .1 .1 .1 .0) (f .last .1 .1 .1 .1 .1 .1 .0) (f .result) (f .kept .0) (f .kept .1 .0) (f .kept .1 .1 .0) (feeds k) t in
     omega (arith, t)
 
 loop-again : tie.Need-loop-again Inv-loop μ-loop

@@ -4,7 +4,7 @@ use mathlib.Core.Path.{sym}
 use native.Mathlib.Omega.{arith}
 use lib.Seq.{length-take-le}
 use Rattle.replay.specs.Session.{begun, Stands}
-use Rattle.replay.proofs.ChunkLaws.{begun-stands, replays-stopped, replays-ended}
+use Rattle.replay.proofs.ChunkLaws.{begun-stands, begun-ready, replays-stopped, replays-ended}
 use borrow.Author.Needs.{needs}
 use borrow.Author.Needs.{needs}
 use Rattle.replay.proofs.replay.Statement.{statement}
@@ -14,7 +14,10 @@ begin-requires : tie.Need-begin-requires
 begin-requires c κs = search needs
 
 run-requires : tie.Need-run-requires
-run-requires c κs = search needs
+run-requires c κs =
+    let b = c .before .before .before .before .before .before .before .begin in
+    let a = c .before .before .before .before .before .before .before .before .before .before .before .before .before .before in
+    begun-ready (b .last .0) (b .last .1 .0) (a .args .list .now) (a .args .line .now) (b .ensures) (a .pre .2) (a .pre .3)
 
 same-length : tie.Need-same-length
 same-length c = search needs

@@ -1,29 +1,64 @@
 -- `replay::run` meets its contract.
 -- Assumes nothing.
-use mathlib.Core.Path.{_≡_, refl, _∙_}
+use mathlib.Core.Path.{_≡_, refl, subst, _∙_}
 use mathlib.Core.Bool.{false}
+use Prim.Native.Nat.{_≤_, _+_, _-_}
 use native.Mathlib.Omega.{arith}
 use lib.ListN.{length}
-use Rattle.replay.proofs.ChunkLaws.{Ran, ran-none, ran-more, ran-stops}
+use Rattle.replay.proofs.ChunkLaws.{Ran, ran-none, ran-more, ran-stops, turn-within, turn-further}
 use borrow.Author.Needs.{needs}
 use Rattle.replay.proofs.run.Statement.{statement}
 use Rattle.replay.proofs.run.Tie as tie
 
 abbrev Inv-loop : tie.InvT-loop
-Inv-loop store₀ table₀ list₀ line₀ chunk₀ turns₀ held₀ store table list line chunk turns held = Ran store₀ table₀ line₀ 0 store table list line held × (length store ≡ length store₀) × (length table ≡ length table₀) × (length list ≡ length list₀) × (length line ≡ length line₀) × (length chunk ≡ length chunk₀)
+Inv-loop store₀ table₀ list₀ line₀ chunk₀ left₀ held₀ store table list line chunk left held = Ran store₀ table₀ line₀ 0 store table list line held (18446744073709551615 - left) × (left ≤ 18446744073709551615) × (length store ≡ length store₀) × (length table ≡ length table₀) × (length list ≡ length list₀) × (length line ≡ length line₀) × (length chunk ≡ length chunk₀)
 
 abbrev μ-loop : tie.MeasureT-loop
-μ-loop store₀ table₀ list₀ line₀ chunk₀ turns₀ held₀ store table list line chunk turns held = turns
+μ-loop store₀ table₀ list₀ line₀ chunk₀ left₀ held₀ store table list line chunk left held = left
 
 loop-holds : tie.Need-loop-holds Inv-loop μ-loop
 loop-holds c =
     let a = c .before .before .before in
-    (ran-none (a .args .store .now) (a .args .table .now) (a .args .line .now) 0 (a .args .list .now) (a .pre), refl, refl, refl, refl, refl)
+    (ran-none (a .args .store .now) (a .args .table .now) (a .args .line .now) 0 (a .args .list .now) (a .pre), omega arith, refl, refl, refl, refl, refl)
 
 read-once-requires : tie.Need-read-once-requires Inv-loop μ-loop
 read-once-requires c κs =
     let r = c .before .before .before .before .before .before .loop .inv .0 .ready in
-    record { at-point = r .at-point; list-long = r .list-long; line-long = r .line-long; few = omega (arith, r .few) }
+    record { at-point = r .at-point; store-long = r .store-long; table-long = r .table-long; list-long = r .list-long; line-long = r .line-long; few = omega (arith, r .few) }
+
+abbrev at-loop : tie.After-read-once Inv-loop μ-loop → tie.At-loop Inv-loop μ-loop
+at-loop k = k .before .before .before .before .before .before .before
+
+abbrev start : tie.After-read-once Inv-loop μ-loop → tie.Start Inv-loop μ-loop
+start k = k .before .before .before .before .before .before .before .before .before .before .before
+
+-- the bytes taken are of those that are left
+within : (k : tie.After-read-once Inv-loop μ-loop) → k .read-once .result .taken ≤ at-loop k .loop .left
+within k =
+    let l = at-loop k .loop in
+    let a = start k .args in
+    let o = k .read-once in
+    let w = turn-within (a .store .now) (a .table .now) (a .line .now) 0 (l .store) (l .table) (l .list) (l .line) (l .held) _ (l .inv .0) (o .last .1 .1 .1 .1 .1 .0) (o .last .0) (o .last .1 .0) (o .last .1 .1 .0) (o .last .1 .1 .1 .0) (o .result) (o .ensures) in
+    omega (arith, w, o .kept .1 .1 .1 .1 .1 .0, k .before .before .before .before .before .before .loop-test .taken)
+
+-- after one more read
+once-more : (k : tie.After-read-once Inv-loop μ-loop) → Ran (start k .args .store .now) (start k .args .table .now) (start k .args .line .now) 0 (k .read-once .last .0) (k .read-once .last .1 .0) (k .read-once .last .1 .1 .0) (k .read-once .last .1 .1 .1 .0) (k .read-once .result .held) (18446744073709551615 - (at-loop k .loop .left - k .read-once .result .taken))
+once-more k =
+    let l = at-loop k .loop in
+    let a = start k .args in
+    let o = k .read-once in
+    let w = within k in
+    let n : (18446744073709551615 - l .left) + o .result .taken ≡ 18446744073709551615 - (l .left - o .result .taken) = omega (arith, l .inv .1, w) in
+    subst (Ran (a .store .now) (a .table .now) (a .line .now) 0 (o .last .0) (o .last .1 .0) (o .last .1 .1 .0) (o .last .1 .1 .1 .0) (o .result .held))
+    n
+    (ran-more (a .store .now) (a .table .now) (a .line .now) 0 (l .store) (l .table) (l .list) (l .line) (l .held) (18446744073709551615 - l .left) (l .inv .0) (o .last .1 .1 .1 .1 .1 .0) (o .last .0) (o .last .1 .0) (o .last .1 .1 .0) (o .last .1 .1 .1 .0) (o .result) (o .ensures))
+
+sub-left : tie.Need-sub-left Inv-loop μ-loop
+sub-left c =
+    within (c .before .before .before .before .before .before .before .before .before)
+
+sub-t21 : tie.Need-sub-t21 Inv-loop μ-loop
+sub-t21 c = search needs
 
 same-length : tie.Need-same-length Inv-loop μ-loop
 same-length c = search needs
@@ -40,39 +75,31 @@ same-length-4 c = search needs
 same-length-5 : tie.Need-same-length-5 Inv-loop μ-loop
 same-length-5 c = search needs
 
-abbrev at-loop : tie.After-read-once Inv-loop μ-loop → tie.At-loop Inv-loop μ-loop
-at-loop k = k .before .before .before .before .before .before .before
+returns : tie.Need-returns Inv-loop μ-loop
+returns c =
+    let k = c .before .before .before .before .before .before .before .before .before .before .before in
+    let a = start k .args in
+    let o = k .read-once in
+    ran-stops (a .store .now) (a .table .now) (a .line .now) 0 (o .last .0) (o .last .1 .0) (o .last .1 .1 .0) (o .last .1 .1 .1 .0) (o .result .held) _ (once-more k) _ (o .result .ended) refl
 
-abbrev start : tie.After-read-once Inv-loop μ-loop → tie.Start Inv-loop μ-loop
-start k = k .before .before .before .before .before .before .before .before .before .before .before
-
--- after one more read
-once-more : (k : tie.After-read-once Inv-loop μ-loop) → Ran (start k .args .store .now) (start k .args .table .now) (start k .args .line .now) 0 (k .read-once .last .0) (k .read-once .last .1 .0) (k .read-once .last .1 .1 .0) (k .read-once .last .1 .1 .1 .0) (k .read-once .result .held)
-once-more k =
+loop-less : tie.Need-loop-less Inv-loop μ-loop
+loop-less c =
+    let k = c .before .before .before .before .before .before .before .before .before .before .before in
     let l = at-loop k .loop in
     let a = start k .args in
     let o = k .read-once in
-    ran-more (a .store .now) (a .table .now) (a .line .now) 0 (l .store) (l .table) (l .list) (l .line) (l .held) (l .inv .0) (o .last .1 .1 .1 .1 .1 .0) (o .last .0) (o .last .1 .0) (o .last .1 .1 .0) (o .last .1 .1 .1 .0) (o .result) (o .ensures)
-
-returns : tie.Need-returns Inv-loop μ-loop
-returns c =
-    let k = c .before .before .before .before .before .before .before .before .before .before in
-    let a = start k .args in
-    let o = k .read-once in
-    ran-stops (a .store .now) (a .table .now) (a .line .now) 0 (o .last .0) (o .last .1 .0) (o .last .1 .1 .0) (o .last .1 .1 .1 .0) (o .result .held) (once-more k) (o .result .ended)
-
-sub-turns : tie.Need-sub-turns Inv-loop μ-loop
-sub-turns c = search needs
-
-loop-less : tie.Need-loop-less Inv-loop μ-loop
-loop-less c = search needs
+    let f = turn-further (a .store .now) (a .table .now) (a .line .now) 0 (l .store) (l .table) (l .list) (l .line) (l .held) _ (l .inv .0) (o .last .1 .1 .1 .1 .1 .0) (o .last .0) (o .last .1 .0) (o .last .1 .1 .0) (o .last .1 .1 .1 .0) (o .result) (o .ensures) (c .if1 .left) in
+    omega (arith, f, within k)
 
 loop-again : tie.Need-loop-again Inv-loop μ-loop
 loop-again c =
-    let k = c .before .before .before .before .before .before .before .before .before .before in
+    let k = c .before .before .before .before .before .before .before .before .before .before .before in
     let o = k .read-once in
     let l = at-loop k .loop in
-    (once-more k, o .kept .0 ∙ l .inv .1, o .kept .1 .0 ∙ l .inv .2, o .kept .1 .1 .0 ∙ l .inv .3, o .kept .1 .1 .1 .0 ∙ l .inv .4, o .kept .1 .1 .1 .1 .1 .0 ∙ l .inv .5)
+    (once-more k, omega (arith, l .inv .1), o .kept .0 ∙ l .inv .2, o .kept .1 .0 ∙ l .inv .3, o .kept .1 .1 .0 ∙ l .inv .4, o .kept .1 .1 .1 .0 ∙ l .inv .5, o .kept .1 .1 .1 .1 .1 .0 ∙ l .inv .6)
+
+sub-t22 : tie.Need-sub-t22 Inv-loop μ-loop
+sub-t22 c = search needs
 
 same-length-6 : tie.Need-same-length-6 Inv-loop μ-loop
 same-length-6 c = search needs
@@ -93,7 +120,7 @@ returns-2 : tie.Need-returns-2 Inv-loop μ-loop
 returns-2 c =
     let l = c .before .loop in
     let a = c .before .before .before .before .before .args in
-    ran-stops (a .store .now) (a .table .now) (a .line .now) 0 (l .store) (l .table) (l .list) (l .line) (l .held) (l .inv .0) false
+    ran-stops (a .store .now) (a .table .now) (a .line .now) 0 (l .store) (l .table) (l .list) (l .line) (l .held) (18446744073709551615 - l .left) (l .inv .0) (18446744073709551615 - l .left) false refl
 
 pub run-spec : {M : Type 1} → statement M
 run-spec =
@@ -103,15 +130,17 @@ run-spec =
     μ-loop
     loop-holds
     read-once-requires
+    sub-left
+    sub-t21
     same-length
     same-length-2
     same-length-3
     same-length-4
     same-length-5
     returns
-    sub-turns
     loop-less
     loop-again
+    sub-t22
     same-length-6
     same-length-7
     same-length-8
