@@ -206,6 +206,14 @@ module _ (chunk : List ℕ) (store table : List ℤ) (list line : List ℕ) (use
 
 -- ---- one read after another
 
+-- no more bytes are taken than the chunk has, and some where there is more to do
+module _ {chunk : List ℕ} {store table store′ table′ : List ℤ} {list′ line line′ : List ℕ} {used : ℕ} {turn : Turn} (t : TakesRead chunk store table store′ table′ list′ line line′ used turn) where
+  pub turn-within : turn .taken ≤ length chunk
+  turn-within = let w = t .takes .within in let g = length-take (turn .got) chunk in omega arith
+
+  pub turn-further : not (turn .more) ≡ false → 0 < turn .taken
+  turn-further goes = let m = not-false (turn .more) goes in let a = t .takes .all m in let g = t .takes .got-is in let h = t .goes-on m in omega arith
+
 module _ (store₀ table₀ : List ℤ) (line₀ : List ℕ) (used₀ : ℕ) where
   -- after `taken` bytes of the chunks
   pub record Ran (store table : List ℤ) (list line : List ℕ) (used taken : ℕ) : Type 0 where
@@ -222,13 +230,6 @@ module _ (store₀ table₀ : List ℤ) (line₀ : List ℕ) (used₀ : ℕ) whe
     module _ (chunk : List ℕ) (store′ table′ : List ℤ) (list′ line′ : List ℕ) (turn : Turn) (t : TakesRead chunk store table store′ table′ list′ line line′ used turn) where
       came : List ℕ
       came = take (turn .taken) (take (turn .got) chunk)
-
-      -- no more bytes came than the chunk has, and some where there is more to do
-      pub turn-within : turn .taken ≤ length chunk
-      turn-within = let w = t .takes .within in let g = length-take (turn .got) chunk in omega arith
-
-      pub turn-further : not (turn .more) ≡ false → 0 < turn .taken
-      turn-further goes = let m = not-false (turn .more) goes in let a = t .takes .all m in let g = t .takes .got-is in let h = t .goes-on m in omega arith
 
       pub ran-more : Ran store′ table′ list′ line′ (turn .held) (taken + turn .taken)
       unfolding came

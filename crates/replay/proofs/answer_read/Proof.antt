@@ -1,6 +1,9 @@
 -- `replay::answer_read` meets its contract.
 -- Assumes nothing.
-use mathlib.Core.Path.{_≡_}
+use mathlib.Core.Path.{ap, _∙_}
+use lib.IntN.{ℤ}
+use lib.ListN.{length}
+use Rattle.io.specs.Counts.{clamped}
 use mir.Syntax.{w64}
 use Rattle.ints.proofs.Machine.{held}
 use Rattle.replay.proofs.ChunkLaws.{nothing-read, some-read}
@@ -41,7 +44,7 @@ returns-2 c =
     let a = c .before .before .before .before .before .before .before .before .before .before .before .before .before .before .before .before .before in
     let n = k .before .before .before .before .before .before .count in
     let b = held w64 (a .args .got) (search needs) in
-    some-read (a .args .chunk .now) (a .args .store .now) (a .args .table .now) (a .args .list .now) (a .args .line .now) (a .args .held) (a .args .got) (n .result) (rw b at (k .before .before .before .before .before .before .before .if1 .left)) (a .pre .1) (rw b at (n .ensures .1)) (k .answer-chunk .last .0) (k .answer-chunk .last .1 .0) (k .answer-chunk .last .1 .1 .0) (k .answer-chunk .last .1 .1 .1 .0) (k .answer-chunk .result) (k .answer-chunk .ensures)
+    some-read (a .args .chunk .now) (a .args .store .now) (a .args .table .now) (a .args .list .now) (a .args .line .now) (a .args .held) (a .args .got) (n .result) (rw b at (k .before .before .before .before .before .before .before .if1 .left)) (a .pre .1) (n .ensures .1 ∙ ap (λ (z : ℤ). clamped z (length (a .args .chunk .now))) b) (k .answer-chunk .last .0) (k .answer-chunk .last .1 .0) (k .answer-chunk .last .1 .1 .0) (k .answer-chunk .last .1 .1 .1 .0) (k .answer-chunk .result) (k .answer-chunk .ensures)
 
 pub answer-read-spec : {M : Type 1} → statement M
 answer-read-spec = tie.close (tie.spec returns count-requires slice-aggregate-answer-chunk answer-chunk-requires same-length same-length-2 same-length-3 same-length-4 returns-2)

@@ -35,10 +35,8 @@ start k = k .before .before .before .before .before .before .before .before .bef
 -- the bytes taken are of those that are left
 within : (k : tie.After-read-once Inv-loop μ-loop) → k .read-once .result .taken ≤ at-loop k .loop .left
 within k =
-    let l = at-loop k .loop in
-    let a = start k .args in
     let o = k .read-once in
-    let w = turn-within (a .store .now) (a .table .now) (a .line .now) 0 (l .store) (l .table) (l .list) (l .line) (l .held) _ (l .inv .0) (o .last .1 .1 .1 .1 .1 .0) (o .last .0) (o .last .1 .0) (o .last .1 .1 .0) (o .last .1 .1 .1 .0) (o .result) (o .ensures) in
+    let w = turn-within (o .ensures) in
     omega (arith, w, o .kept .1 .1 .1 .1 .1 .0, k .before .before .before .before .before .before .loop-test .taken)
 
 -- after one more read
@@ -85,10 +83,7 @@ returns c =
 loop-less : tie.Need-loop-less Inv-loop μ-loop
 loop-less c =
     let k = c .before .before .before .before .before .before .before .before .before .before .before in
-    let l = at-loop k .loop in
-    let a = start k .args in
-    let o = k .read-once in
-    let f = turn-further (a .store .now) (a .table .now) (a .line .now) 0 (l .store) (l .table) (l .list) (l .line) (l .held) _ (l .inv .0) (o .last .1 .1 .1 .1 .1 .0) (o .last .0) (o .last .1 .0) (o .last .1 .1 .0) (o .last .1 .1 .1 .0) (o .result) (o .ensures) (c .if1 .left) in
+    let f = turn-further (k .read-once .ensures) (c .if1 .left) in
     omega (arith, f, within k)
 
 loop-again : tie.Need-loop-again Inv-loop μ-loop
