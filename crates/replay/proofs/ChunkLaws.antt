@@ -61,8 +61,13 @@ module _ (store table : List ℤ) (long : length store ≡ storeWords) (wide : l
     ledger-is = ledger;
   }
 
-  pub begins : (store′ table′ : List ℤ) (a : Answer) → length store′ ≡ length store → length table′ ≡ length table → Gives (openOut store table (pos 0)) a store′ table′ → Begins store′ table′
-  begins store′ table′ a same wider g = record {
+  pub begins :
+      {store′ table′ : List ℤ} {a : Answer}
+      → length store′ ≡ length store
+      → length table′ ≡ length table
+      → Gives (openOut store table (pos 0)) a store′ table′
+      → Begins store′ table′
+  begins {store′} {table′} {a} same wider g = record {
     point = at-start store′ table′ a g;
     at-point = record { ledger = opened (pos 0); point = at-start store′ table′ a g };
     store-long = same ∙ long;
@@ -70,11 +75,16 @@ module _ (store table : List ℤ) (long : length store ≡ storeWords) (wide : l
   }
 
 -- so the buffers stand for the session before the first byte
-pub begun-stands : (store table : List ℤ) (line : List ℕ) → Begins store table → length line ≡ lineBytes → Stands begun store table line 0
-begun-stands store table line b long = record { point = b .point; few = omega arith; begins = refl; long = long }
+pub begun-stands : {store table : List ℤ} {line : List ℕ} → Begins store table → length line ≡ lineBytes → Stands begun store table line 0
+begun-stands b long = record { point = b .point; few = omega arith; begins = refl; long = long }
 
-pub begun-ready : (store table : List ℤ) (list line : List ℕ) → Begins store table → length list ≡ listLength → length line ≡ lineBytes → Ready store table list line 0
-begun-ready store table list line b list-long line-long = record {
+pub begun-ready :
+    {store table : List ℤ} {list line : List ℕ}
+    → Begins store table
+    → length list ≡ listLength
+    → length line ≡ lineBytes
+    → Ready store table list line 0
+begun-ready b list-long line-long = record {
   at-point = b .at-point;
   store-long = b .store-long;
   table-long = b .table-long;
@@ -85,8 +95,12 @@ begun-ready store table list line b list-long line-long = record {
 
 -- ---- a chunk
 
-pub can-feed : (store table : List ℤ) (list line : List ℕ) (used : ℕ) (out : List ℕ) → Ready store table list line used → answerBytes ≤ length out → CanFeed store table list line used out
-can-feed store table list line used out i e = record {
+pub can-feed :
+    {store table : List ℤ} {list line : List ℕ} {used : ℕ} {out : List ℕ}
+    → Ready store table list line used
+    → answerBytes ≤ length out
+    → CanFeed store table list line used out
+can-feed i e = record {
   at-point = i .at-point;
   list-long = i .list-long;
   line-long = i .line-long;
@@ -95,18 +109,25 @@ can-feed store table list line used out i e = record {
 }
 
 -- the session of the bytes held, by themselves, goes on, so its buffers are ready again
-ready-then : (store table store′ table′ : List ℤ) (list list′ line line′ : List ℕ) (used used′ : ℕ) (input : List ℕ) → Ready store table list line used → length store′ ≡ length store → length table′ ≡ length table → length list′ ≡ length list → ((s : Session) → Stands s store table line used → Stands (sessionAfter s input) store′ table′ line′ used′) → Ready store′ table′ list′ line′ used′
-ready-then store table store′ table′ list list′ line line′ used used′ input i same wide kept f =
-    let own : Session = record { ledger = i .at-point .ledger; line = take used line } in
-    let k = f own (alone store table line used (i .at-point) (i .line-long) (i .few)) in
-    record {
-      at-point = record { ledger = sessionAfter own input .ledger; point = k .point };
-      store-long = same ∙ i .store-long;
-      table-long = wide ∙ i .table-long;
-      list-long = kept ∙ i .list-long;
-      line-long = k .long;
-      few = k .few;
-    }
+module _ {store table store′ table′ : List ℤ} {list list′ line line′ : List ℕ} {used used′ : ℕ} (input : List ℕ) where
+  ready-then :
+      Ready store table list line used
+      → length store′ ≡ length store
+      → length table′ ≡ length table
+      → length list′ ≡ length list
+      → ((s : Session) → Stands s store table line used → Stands (sessionAfter s input) store′ table′ line′ used′)
+      → Ready store′ table′ list′ line′ used′
+  ready-then i same wide kept f =
+      let own : Session = record { ledger = i .at-point .ledger; line = take used line } in
+      let k = f own (alone store table line used (i .at-point) (i .line-long) (i .few)) in
+      record {
+        at-point = record { ledger = sessionAfter own input .ledger; point = k .point };
+        store-long = same ∙ i .store-long;
+        table-long = wide ∙ i .table-long;
+        list-long = kept ∙ i .list-long;
+        line-long = k .long;
+        few = k .few;
+      }
 
 module _ (chunk : List ℕ) (store₀ table₀ : List ℤ) (line₀ : List ℕ) (used₀ : ℕ) where
   -- after the bytes before `from`
@@ -115,45 +136,54 @@ module _ (chunk : List ℕ) (store₀ table₀ : List ℤ) (line₀ : List ℕ) 
     pub within : from ≤ length chunk
     pub stands : (s : Session) → Stands s store₀ table₀ line₀ used₀ → Stands (sessionAfter s (take from chunk)) store table line used
 
-  pub through-begins : (list : List ℕ) → Ready store₀ table₀ list line₀ used₀ → Through store₀ table₀ list line₀ used₀ 0
+module _ {chunk : List ℕ} {store₀ table₀ : List ℤ} {list₀ line₀ : List ℕ} {used₀ : ℕ} where
+  pub through-begins : Ready store₀ table₀ list₀ line₀ used₀ → Through chunk store₀ table₀ line₀ used₀ store₀ table₀ list₀ line₀ used₀ 0
   unfolding sessionAfter
-  through-begins list i = record { ready = i; within = omega arith; stands = λ s k. k }
+  through-begins i = record { ready = i; within = omega arith; stands = λ s k. k }
 
-  module _ (store table : List ℤ) (list line : List ℕ) (used from : ℕ) (t : Through store table list line used from) where
-    module _ (store′ table′ : List ℤ) (list′ line′ out′ : List ℕ) (fed : Fed) (same : length store′ ≡ length store) (wide : length table′ ≡ length table) (kept : length list′ ≡ length list) (f : Feeds (drop from chunk) store table store′ table′ line line′ out′ used fed) where
-      pub through-more : Through store′ table′ list′ line′ (fed .held) (from + fed .taken)
-      through-more = record {
-        ready = ready-then store table store′ table′ list list′ line line′ used (fed .held) (take (fed .taken) (drop from chunk)) (t .ready) same wide kept (f .stands);
-        within = let w = f .within in let d = length-drop from chunk in let k = t .within in omega arith;
-        stands = λ s k.
-            subst (λ (x : Session). Stands x store′ table′ line′ (fed .held))
-            (sym (ap (sessionAfter s) (take-add from (fed .taken) chunk) ∙ chunks-are-one-input s (take from chunk) (take (fed .taken) (drop from chunk)) .session-is))
-            (f .stands (sessionAfter s (take from chunk)) (t .stands s k));
-      }
-
-      pub through-further : from < length chunk → 0 < fed .taken
-      through-further h = f .goes-on (let d = length-drop from chunk in omega arith)
-
-    -- a write failed
-    pub through-stops : TakesChunk chunk store₀ table₀ store table list line₀ line used₀ (record { got = length chunk; taken = from; held = used; more = false; ended = false })
-    through-stops = record {
-      ready = t .ready;
-      got-is = refl;
-      within = t .within;
-      all = λ e. absurd (true-false (sym e));
-      ends = λ e. absurd (true-false (sym e));
-      stands = t .stands;
+module _ {chunk : List ℕ} {store₀ table₀ : List ℤ} {line₀ : List ℕ} {used₀ : ℕ} {store table : List ℤ} {list line : List ℕ} {used from : ℕ} where
+  module _ {store′ table′ : List ℤ} {list′ line′ out′ : List ℕ} {fed : Fed} where
+    pub through-more :
+        Through chunk store₀ table₀ line₀ used₀ store table list line used from
+        → length store′ ≡ length store
+        → length table′ ≡ length table
+        → length list′ ≡ length list
+        → Feeds (drop from chunk) store table store′ table′ line line′ out′ used fed
+        → Through chunk store₀ table₀ line₀ used₀ store′ table′ list′ line′ (fed .held) (from + fed .taken)
+    through-more t same wide kept f = record {
+      ready = ready-then (take (fed .taken) (drop from chunk)) (t .ready) same wide kept (f .stands);
+      within = let w = f .within in let d = length-drop from chunk in let k = t .within in omega arith;
+      stands = λ s k.
+          subst (λ (x : Session). Stands x store′ table′ line′ (fed .held))
+          (sym (ap (sessionAfter s) (take-add from (fed .taken) chunk) ∙ chunks-are-one-input s (take from chunk) (take (fed .taken) (drop from chunk)) .session-is))
+          (f .stands (sessionAfter s (take from chunk)) (t .stands s k));
     }
 
-    pub through-ends : length chunk ≤ from → TakesChunk chunk store₀ table₀ store table list line₀ line used₀ (record { got = from; taken = from; held = used; more = true; ended = false })
-    through-ends h = record {
-      ready = t .ready;
-      got-is = let k = t .within in omega arith;
-      within = t .within;
-      all = λ e. let k = t .within in omega arith;
-      ends = λ e. absurd (true-false (sym e));
-      stands = t .stands;
-    }
+  -- a write failed
+  pub through-stops :
+      Through chunk store₀ table₀ line₀ used₀ store table list line used from
+      → TakesChunk chunk store₀ table₀ store table list line₀ line used₀ (record { got = length chunk; taken = from; held = used; more = false; ended = false })
+  through-stops t = record {
+    ready = t .ready;
+    got-is = refl;
+    within = t .within;
+    all = λ e. absurd (true-false (sym e));
+    ends = λ e. absurd (true-false (sym e));
+    stands = t .stands;
+  }
+
+  pub through-ends :
+      Through chunk store₀ table₀ line₀ used₀ store table list line used from
+      → length chunk ≤ from
+      → TakesChunk chunk store₀ table₀ store table list line₀ line used₀ (record { got = from; taken = from; held = used; more = true; ended = false })
+  through-ends t h = record {
+    ready = t .ready;
+    got-is = let k = t .within in omega arith;
+    within = t .within;
+    all = λ e. let k = t .within in omega arith;
+    ends = λ e. absurd (true-false (sym e));
+    stands = t .stands;
+  }
 
 -- ---- what a read gave
 
@@ -166,15 +196,19 @@ end-told : (got : ℤ) → mag got < 2 ^ hbits w64 → eqb (ofZ w64 got) 0 ≡ i
 end-told (pos k) h = refl
 end-told (negsuc k) h = ne-eqb (2 ^ bits w64 - suc k) 0 (λ e. omega arith)
 
-not-none : (b : Bool) → (b ≡ true → ⊥) → b ≡ false
-not-none true never = absurd (never refl)
-not-none false never = refl
+not-true : (b : Bool) → (b ≡ true → ⊥) → b ≡ false
+not-true true never = absurd (never refl)
+not-true false never = refl
 
-module _ (chunk : List ℕ) (store table : List ℤ) (list line : List ℕ) (used : ℕ) where
-  -- nothing
-  pub nothing-read : (got : ℤ) → mag got < 2 ^ hbits w64 → leZ got (pos 0) ≡ true → Ready store table list line used → AnswersRead got chunk store table store table list line line used (record { got = 0; taken = 0; held = used; more = false; ended = eqb (ofZ w64 got) 0 })
+-- nothing
+module _ {chunk : List ℕ} {store table : List ℤ} {list line : List ℕ} {used : ℕ} (got : ℤ) where
+  pub nothing-read :
+      mag got < 2 ^ hbits w64
+      → leZ got (pos 0) ≡ true
+      → Ready store table list line used
+      → AnswersRead got chunk store table store table list line line used (record { got = 0; taken = 0; held = used; more = false; ended = eqb (ofZ w64 got) 0 })
   unfolding sessionAfter
-  nothing-read got h e i = record {
+  nothing-read h e i = record {
     reads = record {
       takes = record {
         ready = i;
@@ -190,29 +224,44 @@ module _ (chunk : List ℕ) (store table : List ℤ) (list line : List ℕ) (use
     ended-is = end-told got h;
   }
 
-  -- bytes, answered as a chunk
-  pub some-read : (got : ℤ) (n : ℕ) → leZ got (pos 0) ≡ false → Moved (length chunk) got → n ≡ clamped got (length chunk) → (store′ table′ : List ℤ) (list′ line′ : List ℕ) (turn : Turn) → TakesChunk (take n chunk) store table store′ table′ list′ line line′ used turn → AnswersRead got chunk store table store′ table′ list′ line line′ used turn
-  some-read (negsuc k) n e w is store′ table′ list′ line′ turn t = absurd (true-false e)
-  some-read (pos k) n e w is store′ table′ list′ line′ turn t =
+-- bytes, answered as a chunk
+module _ {chunk : List ℕ} {store table store′ table′ : List ℤ} {list′ line line′ : List ℕ} {used : ℕ} {turn : Turn} where
+  pub some-read :
+      (got : ℤ) (n : ℕ)
+      → leZ got (pos 0) ≡ false
+      → Moved (length chunk) got
+      → n ≡ clamped got (length chunk)
+      → TakesChunk (take n chunk) store table store′ table′ list′ line line′ used turn
+      → AnswersRead got chunk store table store′ table′ list′ line line′ used turn
+  some-read (negsuc k) n e w is t = absurd (true-false e)
+  some-read (pos k) n e w is t =
       let h = leb-false k 0 e in
       let many : n ≡ k = omega arith in
       let long : length (take n chunk) ≡ n = length-take-le n chunk (omega arith) in
       let gave : turn .got ≡ n = t .got-is ∙ long in
       record {
-        reads = record { takes = subst (λ (x : ℕ). TakesChunk (take x chunk) store table store′ table′ list′ line line′ used turn) (sym gave) t; goes-on = λ m. omega arith };
+        reads = record {
+          takes = subst (λ (x : ℕ). TakesChunk (take x chunk) store table store′ table′ list′ line line′ used turn) (sym gave) t;
+          goes-on = λ m. omega arith;
+        };
         got-is = gave ∙ is;
-        ended-is = not-none (turn .ended) (λ m. let z = t .ends m in omega arith) ∙ sym (ne-eqb k 0 (λ z. omega arith));
+        ended-is = not-true (turn .ended) (λ m. let z = t .ends m in omega arith) ∙ sym (ne-eqb k 0 (λ z. omega arith));
       }
 
 -- ---- one read after another
 
--- no more bytes are taken than the chunk has, and some where there is more to do
-module _ {chunk : List ℕ} {store table store′ table′ : List ℤ} {list′ line line′ : List ℕ} {used : ℕ} {turn : Turn} (t : TakesRead chunk store table store′ table′ list′ line line′ used turn) where
-  pub turn-within : turn .taken ≤ length chunk
-  turn-within = let w = t .takes .within in let g = length-take (turn .got) chunk in omega arith
+module _ {chunk : List ℕ} {store table store′ table′ : List ℤ} {list′ line line′ : List ℕ} {used : ℕ} {turn : Turn} where
+  -- no more bytes are taken than the chunk has, and some where there is more to do
+  pub turn-within : TakesRead chunk store table store′ table′ list′ line line′ used turn → turn .taken ≤ length chunk
+  turn-within t = let w = t .takes .within in let g = length-take (turn .got) chunk in omega arith
 
-  pub turn-further : not (turn .more) ≡ false → 0 < turn .taken
-  turn-further goes = let m = not-false (turn .more) goes in let a = t .takes .all m in let g = t .takes .got-is in let h = t .goes-on m in omega arith
+  pub turn-further : TakesRead chunk store table store′ table′ list′ line line′ used turn → not (turn .more) ≡ false → 0 < turn .taken
+  turn-further t goes =
+      let m = not-false (turn .more) goes in
+      let a = t .takes .all m in
+      let g = t .takes .got-is in
+      let h = t .goes-on m in
+      omega arith
 
 module _ (store₀ table₀ : List ℤ) (line₀ : List ℕ) (used₀ : ℕ) where
   -- after `taken` bytes of the chunks
@@ -222,36 +271,45 @@ module _ (store₀ table₀ : List ℤ) (line₀ : List ℕ) (used₀ : ℕ) whe
     pub many : length input ≡ taken
     pub stands : (s : Session) → Stands s store₀ table₀ line₀ used₀ → Stands (sessionAfter s input) store table line used
 
-  pub ran-none : (list : List ℕ) → Ready store₀ table₀ list line₀ used₀ → Ran store₀ table₀ list line₀ used₀ 0
+module _ {store₀ table₀ : List ℤ} {list₀ line₀ : List ℕ} {used₀ : ℕ} where
+  pub ran-none : Ready store₀ table₀ list₀ line₀ used₀ → Ran store₀ table₀ line₀ used₀ store₀ table₀ list₀ line₀ used₀ 0
   unfolding sessionAfter
-  ran-none list i = record { ready = i; input = []; many = refl; stands = λ s k. k }
+  ran-none i = record { ready = i; input = []; many = refl; stands = λ s k. k }
 
-  module _ (store table : List ℤ) (list line : List ℕ) (used taken : ℕ) (r : Ran store table list line used taken) where
-    module _ (chunk : List ℕ) (store′ table′ : List ℤ) (list′ line′ : List ℕ) (turn : Turn) (t : TakesRead chunk store table store′ table′ list′ line line′ used turn) where
-      came : List ℕ
-      came = take (turn .taken) (take (turn .got) chunk)
+module _ {store₀ table₀ : List ℤ} {line₀ : List ℕ} {used₀ : ℕ} {store table : List ℤ} {list line : List ℕ} {used taken : ℕ} where
+  module _ {chunk : List ℕ} {store′ table′ : List ℤ} {list′ line′ : List ℕ} {turn : Turn} where
+    pub ran-more :
+        Ran store₀ table₀ line₀ used₀ store table list line used taken
+        → TakesRead chunk store table store′ table′ list′ line line′ used turn
+        → Ran store₀ table₀ line₀ used₀ store′ table′ list′ line′ (turn .held) (taken + turn .taken)
+    ran-more r t =
+        let came = take (turn .taken) (take (turn .got) chunk) in
+        record {
+          ready = t .takes .ready;
+          input = r .input ++ came;
+          many = length-append (r .input) came ∙ ap₂ _+_ (r .many) (length-take-le (turn .taken) (take (turn .got) chunk) (t .takes .within));
+          stands = λ s k.
+              subst (λ (x : Session). Stands x store′ table′ line′ (turn .held))
+              (sym (chunks-are-one-input s (r .input) came .session-is))
+              (t .takes .stands (sessionAfter s (r .input)) (r .stands s k));
+        }
 
-      pub ran-more : Ran store′ table′ list′ line′ (turn .held) (taken + turn .taken)
-      unfolding came
-      ran-more = record {
-        ready = t .takes .ready;
-        input = r .input ++ came;
-        many = length-append (r .input) came ∙ ap₂ _+_ (r .many) (length-take-le (turn .taken) (take (turn .got) chunk) (t .takes .within));
-        stands = λ s k.
-            subst (λ (x : Session). Stands x store′ table′ line′ (turn .held))
-            (sym (chunks-are-one-input s (r .input) came .session-is))
-            (t .takes .stands (sessionAfter s (r .input)) (r .stands s k));
-      }
-
-    pub ran-stops : (many : ℕ) (ended : Bool) → taken ≡ many → Runs store₀ table₀ store table list line₀ line used₀ (record { taken = many; held = used; ended = ended })
-    ran-stops many ended e = record { ready = r .ready; input = r .input; many = r .many ∙ e; stands = r .stands }
+  pub ran-stops :
+      (ended : Bool)
+      → Ran store₀ table₀ line₀ used₀ store table list line used taken
+      → Runs store₀ table₀ store table list line₀ line used₀ (record { taken = taken; held = used; ended = ended })
+  ran-stops ended r = record { ready = r .ready; input = r .input; many = r .many; stands = r .stands }
 
 -- ---- the whole program
 
-module _ (store table store′ table′ : List ℤ) (list′ line line′ : List ℕ) (stop : Stop) (b : Stands begun store table line 0) (r : Runs store table store′ table′ list′ line line′ 0 stop) where
+module _ {store table store′ table′ : List ℤ} {list′ line line′ : List ℕ} {stop : Stop} where
   -- a read or a write failed
-  pub replays-stopped : (out : List ℕ) → Replays store′ table′ line′ out (record { taken = stop .taken; held = stop .held; ended = false; filled = 0 })
-  replays-stopped out = record {
+  pub replays-stopped :
+      {out : List ℕ}
+      → Stands begun store table line 0
+      → Runs store table store′ table′ list′ line line′ 0 stop
+      → Replays store′ table′ line′ out (record { taken = stop .taken; held = stop .held; ended = false; filled = 0 })
+  replays-stopped b r = record {
     input = r .input;
     many = r .many;
     stands = λ e. r .stands begun b;
@@ -260,11 +318,16 @@ module _ (store table store′ table′ : List ℤ) (list′ line line′ : List
   }
 
   -- the input has ended
-  pub replays-ended : (store″ table″ : List ℤ) (line″ out″ : List ℕ) (filled : ℕ) → Ends store′ table′ store″ table″ line′ out″ (stop .held) filled → Replays store″ table″ line″ out″ (record { taken = stop .taken; held = 0; ended = true; filled = filled })
-  replays-ended store″ table″ line″ out″ filled f = record {
-    input = r .input;
-    many = r .many;
-    stands = λ e. absurd (true-false e);
-    leads = λ e. f .leads (sessionAfter begun (r .input)) (r .stands begun b);
-    writes = λ e. f .writes (sessionAfter begun (r .input)) (r .stands begun b);
-  }
+  module _ {store″ table″ : List ℤ} {line″ out″ : List ℕ} {filled : ℕ} where
+    pub replays-ended :
+        Stands begun store table line 0
+        → Runs store table store′ table′ list′ line line′ 0 stop
+        → Ends store′ table′ store″ table″ line′ out″ (stop .held) filled
+        → Replays store″ table″ line″ out″ (record { taken = stop .taken; held = 0; ended = true; filled = filled })
+    replays-ended b r f = record {
+      input = r .input;
+      many = r .many;
+      stands = λ e. absurd (true-false e);
+      leads = λ e. f .leads (sessionAfter begun (r .input)) (r .stands begun b);
+      writes = λ e. f .writes (sessionAfter begun (r .input)) (r .stands begun b);
+    }

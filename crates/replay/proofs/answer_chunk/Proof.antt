@@ -6,7 +6,7 @@ use native.Mathlib.Omega.{arith}
 use lib.ListN.{length, drop, length-drop}
 use lib.Seq.{length-take-le, take-all}
 use Rattle.replay.specs.Session.{Feeds}
-use Rattle.replay.proofs.ChunkLaws.{can-feed, Through, through-begins, through-more, through-further, through-stops, through-ends}
+use Rattle.replay.proofs.ChunkLaws.{can-feed, Through, through-begins, through-more, through-stops, through-ends}
 use borrow.Author.Needs.{needs}
 use Rattle.replay.proofs.answer_chunk.Statement.{statement}
 use Rattle.replay.proofs.answer_chunk.Tie as tie
@@ -23,7 +23,7 @@ large-buffer-requires c κs = search needs
 loop-holds : tie.Need-loop-holds Inv-loop μ-loop
 loop-holds c =
     let a = c .before .before .before .before in
-    (through-begins (a .args .chunk .now) (a .args .store .now) (a .args .table .now) (a .args .line .now) (a .args .held) (a .args .list .now) (a .pre), c .large-buffer .ensures, refl, refl, refl, refl)
+    (through-begins (a .pre), c .large-buffer .ensures, refl, refl, refl, refl)
 
 sub-feed : tie.Need-sub-feed Inv-loop μ-loop
 sub-feed c = search needs
@@ -40,7 +40,7 @@ slice-aggregate-feed c = search needs
 feed-requires : tie.Need-feed-requires Inv-loop μ-loop
 feed-requires c κs =
     let l = c .before .before .before .before .before .before .before .loop in
-    can-feed (l .store) (l .table) (l .list) (l .line) (l .used) (l .out) (l .inv .0 .ready) (omega (arith, l .inv .1))
+    can-feed (l .inv .0 .ready) (omega (arith, l .inv .1))
 
 abbrev at-loop : tie.After-feed Inv-loop μ-loop → tie.At-loop Inv-loop μ-loop
 at-loop k = k .before .before .before .before .before .before .before .before
@@ -60,8 +60,7 @@ further : (k : tie.After-feed Inv-loop μ-loop) → Through (start k .args .chun
 further k =
     let f = k .feed in
     let l = at-loop k .loop in
-    let a = start k .args in
-    through-more (a .chunk .now) (a .store .now) (a .table .now) (a .line .now) (a .held) (l .store) (l .table) (l .list) (l .line) (l .used) (l .from) (l .inv .0) (f .last .0) (f .last .1 .0) (f .last .1 .1 .0) (f .last .1 .1 .1 .0) (f .last .1 .1 .1 .1 .1 .1 .0) (f .result) (f .kept .0) (f .kept .1 .0) (f .kept .1 .1 .0) (feeds k)
+    through-more (l .inv .0) (f .kept .0) (f .kept .1 .0) (f .kept .1 .1 .0) (feeds k)
 
 add-from : tie.Need-add-from Inv-loop μ-loop
 add-from c =
@@ -95,18 +94,14 @@ same-length-4 c = search needs
 returns : tie.Need-returns Inv-loop μ-loop
 returns c =
     let k = c .before .before .before .before .before .before .before .before .before .before .before in
-    let f = k .feed in
-    let a = start k .args in
-    through-stops (a .chunk .now) (a .store .now) (a .table .now) (a .line .now) (a .held) (f .last .0) (f .last .1 .0) (f .last .1 .1 .0) (f .last .1 .1 .1 .0) (f .result .held) (at-loop k .loop .from + f .result .taken) (further k)
+    through-stops (further k)
 
 loop-less : tie.Need-loop-less Inv-loop μ-loop
 loop-less c =
     let k = c .before .before .before .before .before .before .before .before .before .before .before in
-    let f = k .feed in
-    let l = at-loop k .loop in
-    let a = start k .args in
     let t = k .before .before .before .before .before .before .before .loop-test .taken in
-    let m = through-further (a .chunk .now) (a .store .now) (a .table .now) (a .line .now) (a .held) (l .store) (l .table) (l .list) (l .line) (l .used) (l .from) (l .inv .0) (f .last .0) (f .last .1 .0) (f .last .1 .1 .0) (f .last .1 .1 .1 .0) (f .last .1 .1 .1 .1 .1 .1 .0) (f .result) (f .kept .0) (f .kept .1 .0) (f .kept .1 .1 .0) (feeds k) t in
+    let d = length-drop (at-loop k .loop .from) (start k .args .chunk .now) in
+    let m = feeds k .goes-on (omega (arith, d, t)) in
     omega (arith, t)
 
 loop-again : tie.Need-loop-again Inv-loop μ-loop
@@ -131,8 +126,7 @@ same-length-8 c = search needs
 returns-2 : tie.Need-returns-2 Inv-loop μ-loop
 returns-2 c =
     let l = c .before .loop in
-    let a = c .before .before .before .before .before .before .args in
-    through-ends (a .chunk .now) (a .store .now) (a .table .now) (a .line .now) (a .held) (l .store) (l .table) (l .list) (l .line) (l .used) (l .from) (l .inv .0) (c .loop-test .left)
+    through-ends (l .inv .0) (c .loop-test .left)
 
 pub answer-chunk-spec : {M : Type 1} → statement M
 answer-chunk-spec =

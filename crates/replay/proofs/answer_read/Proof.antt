@@ -15,7 +15,7 @@ returns : tie.Need-returns
 returns c =
     let a = c .before .before .before .before in
     let b = held w64 (a .args .got) (search needs) in
-    nothing-read (a .args .chunk .now) (a .args .store .now) (a .args .table .now) (a .args .list .now) (a .args .line .now) (a .args .held) (a .args .got) (search needs) (rw b at (c .if1 .taken)) (a .pre .0)
+    nothing-read (a .args .got) (search needs) (rw b at (c .if1 .taken)) (a .pre .0)
 
 count-requires : tie.Need-count-requires
 count-requires c κs = search needs
@@ -44,7 +44,9 @@ returns-2 c =
     let a = c .before .before .before .before .before .before .before .before .before .before .before .before .before .before .before .before .before in
     let n = k .before .before .before .before .before .before .count in
     let b = held w64 (a .args .got) (search needs) in
-    some-read (a .args .chunk .now) (a .args .store .now) (a .args .table .now) (a .args .list .now) (a .args .line .now) (a .args .held) (a .args .got) (n .result) (rw b at (k .before .before .before .before .before .before .before .if1 .left)) (a .pre .1) (n .ensures .1 ∙ ap (λ (z : ℤ). clamped z (length (a .args .chunk .now))) b) (k .answer-chunk .last .0) (k .answer-chunk .last .1 .0) (k .answer-chunk .last .1 .1 .0) (k .answer-chunk .last .1 .1 .1 .0) (k .answer-chunk .result) (k .answer-chunk .ensures)
+    let left = rw b at (k .before .before .before .before .before .before .before .if1 .left) in
+    let counted = n .ensures .1 ∙ ap (λ (z : ℤ). clamped z (length (a .args .chunk .now))) b in
+    some-read (a .args .got) (n .result) left (a .pre .1) counted (k .answer-chunk .ensures)
 
 pub answer-read-spec : {M : Type 1} → statement M
 answer-read-spec = tie.close (tie.spec returns count-requires slice-aggregate-answer-chunk answer-chunk-requires same-length same-length-2 same-length-3 same-length-4 returns-2)

@@ -17,7 +17,7 @@ run-requires : tie.Need-run-requires
 run-requires c κs =
     let b = c .before .before .before .before .before .before .before .begin in
     let a = c .before .before .before .before .before .before .before .before .before .before .before .before .before .before in
-    begun-ready (b .last .0) (b .last .1 .0) (a .args .list .now) (a .args .line .now) (b .ensures) (a .pre .2) (a .pre .3)
+    begun-ready (b .ensures) (a .pre .2) (a .pre .3)
 
 same-length : tie.Need-same-length
 same-length c = search needs
@@ -42,14 +42,12 @@ start k = k .before .before .before .before .before .before .before .before .bef
 
 -- the buffers that the run starts with are those of the session before the first byte
 begins : (k : tie.After-run) → Stands begun (opening k .begin .last .0) (opening k .begin .last .1 .0) (start k .args .line .now) 0
-begins k = begun-stands (opening k .begin .last .0) (opening k .begin .last .1 .0) (start k .args .line .now) (opening k .begin .ensures) (start k .pre .3)
+begins k = begun-stands (opening k .begin .ensures) (start k .pre .3)
 
 returns : tie.Need-returns
 returns c =
     let k = c .before .before .before .before .before .before .before .before .before .before in
-    let b = opening k .begin in
-    let r = k .run in
-    replays-stopped (b .last .0) (b .last .1 .0) (r .last .0) (r .last .1 .0) (r .last .1 .1 .0) (start k .args .line .now) (r .last .1 .1 .1 .0) (r .result) (begins k) (r .ensures) (start k .args .out .now)
+    replays-stopped (begins k) (k .run .ensures)
 
 finish-requires : tie.Need-finish-requires
 finish-requires c κs = search needs
@@ -87,9 +85,7 @@ returns-2 : tie.Need-returns-2
 returns-2 c =
     let f = c .before .before .before .before .before .before .before .before .before .before .finish in
     let k = c .before .before .before .before .before .before .before .before .before .before .before .before .before .before .before .before .before .before .before .before .before .before .before .before .before .before in
-    let b = opening k .begin in
-    let r = k .run in
-    replays-ended (b .last .0) (b .last .1 .0) (r .last .0) (r .last .1 .0) (r .last .1 .1 .0) (start k .args .line .now) (r .last .1 .1 .1 .0) (r .result) (begins k) (r .ensures) (f .last .0) (f .last .1 .0) (f .last .1 .1 .1 .0) (f .last .1 .1 .1 .1 .1 .0) (f .result) (f .ensures)
+    replays-ended (begins k) (k .run .ensures) (f .ensures)
 
 pub replay-spec : {M : Type 1} → statement M
 replay-spec =

@@ -19,7 +19,7 @@ abbrev μ-loop : tie.MeasureT-loop
 loop-holds : tie.Need-loop-holds Inv-loop μ-loop
 loop-holds c =
     let a = c .before .before .before in
-    (ran-none (a .args .store .now) (a .args .table .now) (a .args .line .now) 0 (a .args .list .now) (a .pre), omega arith, refl, refl, refl, refl, refl)
+    (ran-none (a .pre), omega arith, refl, refl, refl, refl, refl)
 
 read-once-requires : tie.Need-read-once-requires Inv-loop μ-loop
 read-once-requires c κs =
@@ -43,13 +43,10 @@ within k =
 once-more : (k : tie.After-read-once Inv-loop μ-loop) → Ran (start k .args .store .now) (start k .args .table .now) (start k .args .line .now) 0 (k .read-once .last .0) (k .read-once .last .1 .0) (k .read-once .last .1 .1 .0) (k .read-once .last .1 .1 .1 .0) (k .read-once .result .held) (18446744073709551615 - (at-loop k .loop .left - k .read-once .result .taken))
 once-more k =
     let l = at-loop k .loop in
-    let a = start k .args in
     let o = k .read-once in
     let w = within k in
     let n : (18446744073709551615 - l .left) + o .result .taken ≡ 18446744073709551615 - (l .left - o .result .taken) = omega (arith, l .inv .1, w) in
-    subst (Ran (a .store .now) (a .table .now) (a .line .now) 0 (o .last .0) (o .last .1 .0) (o .last .1 .1 .0) (o .last .1 .1 .1 .0) (o .result .held))
-    n
-    (ran-more (a .store .now) (a .table .now) (a .line .now) 0 (l .store) (l .table) (l .list) (l .line) (l .held) (18446744073709551615 - l .left) (l .inv .0) (o .last .1 .1 .1 .1 .1 .0) (o .last .0) (o .last .1 .0) (o .last .1 .1 .0) (o .last .1 .1 .1 .0) (o .result) (o .ensures))
+    rw n at (ran-more (l .inv .0) (o .ensures))
 
 sub-left : tie.Need-sub-left Inv-loop μ-loop
 sub-left c =
@@ -76,9 +73,7 @@ same-length-5 c = search needs
 returns : tie.Need-returns Inv-loop μ-loop
 returns c =
     let k = c .before .before .before .before .before .before .before .before .before .before .before in
-    let a = start k .args in
-    let o = k .read-once in
-    ran-stops (a .store .now) (a .table .now) (a .line .now) 0 (o .last .0) (o .last .1 .0) (o .last .1 .1 .0) (o .last .1 .1 .1 .0) (o .result .held) _ (once-more k) _ (o .result .ended) refl
+    ran-stops (k .read-once .result .ended) (once-more k)
 
 loop-less : tie.Need-loop-less Inv-loop μ-loop
 loop-less c =
@@ -114,8 +109,7 @@ same-length-10 c = search needs
 returns-2 : tie.Need-returns-2 Inv-loop μ-loop
 returns-2 c =
     let l = c .before .loop in
-    let a = c .before .before .before .before .before .args in
-    ran-stops (a .store .now) (a .table .now) (a .line .now) 0 (l .store) (l .table) (l .list) (l .line) (l .held) (18446744073709551615 - l .left) (l .inv .0) (18446744073709551615 - l .left) false refl
+    ran-stops false (l .inv .0)
 
 pub run-spec : {M : Type 1} → statement M
 run-spec =
