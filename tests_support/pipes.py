@@ -1,6 +1,7 @@
-"""Runs a program with non-blocking pipes at both ends: the input comes in pieces with pauses, the output is read slowly and late.
+"""Runs a program between two pipes, of which its input's, its output's or both do not wait: the input comes in pieces with pauses, the output is read
+slowly and late.
 
-Usage: pipes.py PROGRAM INPUT OUTPUT: writes to the file OUTPUT what the program wrote; exit status 1 where it did not end in time.
+Usage: pipes.py PROGRAM INPUT OUTPUT in|out|both: writes to the file OUTPUT what the program wrote; exit status 1 where it did not end well.
 """
 import os
 import subprocess
@@ -9,13 +10,13 @@ import time
 
 
 def main():
-    program, source, target = sys.argv[1:]
+    program, source, target, which = sys.argv[1:]
     with open(source, 'rb') as file:
         calls = file.read()
     in_read, in_write = os.pipe()
     out_read, out_write = os.pipe()
-    for end in (in_read, out_write):
-        os.set_blocking(end, False)
+    os.set_blocking(in_read, which == 'out')
+    os.set_blocking(out_write, which == 'in')
     child = subprocess.Popen([program], stdin=in_read, stdout=out_write)
     os.close(in_read)
     os.close(out_write)

@@ -28,7 +28,8 @@ use Rattle.engine.specs.Gives.{Gives}
 use Rattle.history.specs.Index as H
 use Rattle.history.specs.Points.{Point}
 use Rattle.replay.specs.Replay.{listLength}
-use Rattle.replay.specs.Session.{Session, begun, sessionAfter, wordsIn, lineBytes, answerBytes, Stands, CanFeed, Feeds, Ends, Ready, Begins, TakesChunk, TakesRead, isEnd, AnswersRead, Runs, Replays}
+use Rattle.replay.specs.Session.{Session, begun, sessionAfter, wordsIn, lineBytes, answerBytes, Stands, CanFeed, Feeds, Ends, Ready, Begins}
+use Rattle.replay.specs.Session.{TakesChunk, TakesRead, isEnd, AnswersRead, Runs, Replays}
 use Rattle.replay.specs.declared.feeding.Fed.{Fed}
 use Rattle.replay.specs.declared.Turn.{Turn}
 use Rattle.replay.specs.declared.Stop.{Stop}

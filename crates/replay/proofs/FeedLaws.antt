@@ -285,7 +285,12 @@ module _ (store table : List ℤ) (line : List ℕ) (out : List ℕ) where
       none : (s : Session) → Stands s store table line used → s .line ≡ []
       none s k = nothing-held s (subst (Stands s store table line) e k)
 
-  pub ends-line : (used : ℕ) → 0 < used → (store′ table′ : List ℤ) (out′ : List ℕ) (r : ℕ) → EndsLine line (record { held = used; filled = 0 }) store table store′ table′ out out′ r → Ends store table store′ table′ line out′ used r
+  pub ends-line :
+      (used : ℕ)
+      → 0 < used
+      → (store′ table′ : List ℤ) (out′ : List ℕ) (r : ℕ)
+      → EndsLine line (record { held = used; filled = 0 }) store table store′ table′ out out′ r
+      → Ends store table store′ table′ line out′ used r
   ends-line used h store′ table′ out′ r a = record {
     leads = λ s k.
         subst (λ (l : Ledger). Point l (wordsIn store′ table′))

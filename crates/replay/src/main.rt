@@ -62,7 +62,8 @@ fn answer_chunk(
     chunk: &[u8],
 ) -> Turn
     requires { ⌜ Ready (now store) (now table) (now list) (now line) held ⌝ }
-    ensures { λ r. ⌜ TakesChunk (now (chunk .entry)) (now (store .entry)) (now (table .entry)) (now (store .exit)) (now (table .exit)) (now (list .exit)) (now (line .entry)) (now (line .exit)) held r ⌝ }
+    ensures { λ r. ⌜ TakesChunk (now (chunk .entry)) (now (store .entry)) (now (table .entry)) (now (store .exit)) (now (table .exit))
+        (now (list .exit)) (now (line .entry)) (now (line .exit)) held r ⌝ }
 {
     let mut out = io::large_buffer();
     let mut used = held;
@@ -102,7 +103,8 @@ fn answer_read(
 ) -> Turn
     requires { ⌜ Ready (now store) (now table) (now list) (now line) held ⌝ }
     requires { ⌜ Moved (length (now chunk)) got ⌝ }
-    ensures { λ r. ⌜ AnswersRead got (now (chunk .entry)) (now (store .entry)) (now (table .entry)) (now (store .exit)) (now (table .exit)) (now (list .exit)) (now (line .entry)) (now (line .exit)) held r ⌝ }
+    ensures { λ r. ⌜ AnswersRead got (now (chunk .entry)) (now (store .entry)) (now (table .entry)) (now (store .exit)) (now (table .exit))
+        (now (list .exit)) (now (line .entry)) (now (line .exit)) held r ⌝ }
 {
     if got <= 0 {
         return Turn {
@@ -127,7 +129,8 @@ fn read_once(
     chunk: &mut [u8],
 ) -> Turn
     requires { ⌜ Ready (now store) (now table) (now list) (now line) held ⌝ }
-    ensures { λ r. ⌜ TakesRead (now (chunk .exit)) (now (store .entry)) (now (table .entry)) (now (store .exit)) (now (table .exit)) (now (list .exit)) (now (line .entry)) (now (line .exit)) held r ⌝ }
+    ensures { λ r. ⌜ TakesRead (now (chunk .exit)) (now (store .entry)) (now (table .entry)) (now (store .exit)) (now (table .exit))
+        (now (list .exit)) (now (line .entry)) (now (line .exit)) held r ⌝ }
 {
     let got = read_chunk(chunk);
     answer_read(store, table, list, line, held, chunk, got)
@@ -143,7 +146,8 @@ fn run(
     chunk: &mut [u8],
 ) -> Stop
     requires { ⌜ Ready (now store) (now table) (now list) (now line) 0 ⌝ }
-    ensures { λ r. ⌜ Runs (now (store .entry)) (now (table .entry)) (now (store .exit)) (now (table .exit)) (now (list .exit)) (now (line .entry)) (now (line .exit)) 0 r ⌝ }
+    ensures { λ r. ⌜ Runs (now (store .entry)) (now (table .entry)) (now (store .exit)) (now (table .exit))
+        (now (list .exit)) (now (line .entry)) (now (line .exit)) 0 r ⌝ }
 {
     let mut left = usize::MAX;
     let mut held: usize = 0;

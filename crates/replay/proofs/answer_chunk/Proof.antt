@@ -12,7 +12,13 @@ use Rattle.replay.proofs.answer_chunk.Statement.{statement}
 use Rattle.replay.proofs.answer_chunk.Tie as tie
 
 abbrev Inv-loop : tie.InvT-loop
-Inv-loop store₀ table₀ list₀ line₀ held chunk out₀ used₀ from₀ store table list line out used from = Through chunk store₀ table₀ line₀ held store table list line used from × (65536 ≡ length out) × (length store ≡ length store₀) × (length table ≡ length table₀) × (length list ≡ length list₀) × (length line ≡ length line₀)
+Inv-loop store₀ table₀ list₀ line₀ held chunk out₀ used₀ from₀ store table list line out used from =
+    Through chunk store₀ table₀ line₀ held store table list line used from
+    × (65536 ≡ length out)
+    × (length store ≡ length store₀)
+    × (length table ≡ length table₀)
+    × (length list ≡ length list₀)
+    × (length line ≡ length line₀)
 
 abbrev μ-loop : tie.MeasureT-loop
 μ-loop store₀ table₀ list₀ line₀ held chunk out₀ used₀ from₀ store table list line out used from = length chunk - from
@@ -49,14 +55,39 @@ abbrev start : tie.After-feed Inv-loop μ-loop → tie.Start Inv-loop μ-loop
 start k = k .before .before .before .before .before .before .before .before .before .before .before .before .before
 
 -- what `feed` leaves, over the rest of the chunk
-feeds : (k : tie.After-feed Inv-loop μ-loop) → Feeds (drop (at-loop k .loop .from) (start k .args .chunk .now)) (at-loop k .loop .store) (at-loop k .loop .table) (k .feed .last .0) (k .feed .last .1 .0) (at-loop k .loop .line) (k .feed .last .1 .1 .1 .0) (k .feed .last .1 .1 .1 .1 .1 .1 .0) (at-loop k .loop .used) (k .feed .result)
+feeds :
+    (k : tie.After-feed Inv-loop μ-loop)
+    → Feeds
+    (drop (at-loop k .loop .from) (start k .args .chunk .now))
+    (at-loop k .loop .store)
+    (at-loop k .loop .table)
+    (k .feed .last .0)
+    (k .feed .last .1 .0)
+    (at-loop k .loop .line)
+    (k .feed .last .1 .1 .1 .0)
+    (k .feed .last .1 .1 .1 .1 .1 .1 .0)
+    (at-loop k .loop .used)
+    (k .feed .result)
 feeds k =
     let chunk = start k .args .chunk .now in
     let from = at-loop k .loop .from in
     rw (take-all (length chunk - from) (drop from chunk) (omega (arith, length-drop from chunk))) at (k .feed .ensures)
 
 -- after the bytes that it took
-further : (k : tie.After-feed Inv-loop μ-loop) → Through (start k .args .chunk .now) (start k .args .store .now) (start k .args .table .now) (start k .args .line .now) (start k .args .held) (k .feed .last .0) (k .feed .last .1 .0) (k .feed .last .1 .1 .0) (k .feed .last .1 .1 .1 .0) (k .feed .result .held) (at-loop k .loop .from + k .feed .result .taken)
+further :
+    (k : tie.After-feed Inv-loop μ-loop)
+    → Through
+    (start k .args .chunk .now)
+    (start k .args .store .now)
+    (start k .args .table .now)
+    (start k .args .line .now)
+    (start k .args .held)
+    (k .feed .last .0)
+    (k .feed .last .1 .0)
+    (k .feed .last .1 .1 .0)
+    (k .feed .last .1 .1 .1 .0)
+    (k .feed .result .held)
+    (at-loop k .loop .from + k .feed .result .taken)
 further k =
     let f = k .feed in
     let l = at-loop k .loop in

@@ -83,9 +83,9 @@ same-length-11 c = search needs
 
 returns-2 : tie.Need-returns-2
 returns-2 c =
-    let f = c .before .before .before .before .before .before .before .before .before .before .finish in
-    let k = c .before .before .before .before .before .before .before .before .before .before .before .before .before .before .before .before .before .before .before .before .before .before .before .before .before .before in
-    replays-ended (begins k) (k .run .ensures) (f .ensures)
+    let f = c .before .before .before .before .before .before .before .before .before .before in
+    let k = f .before .before .before .before .before .before .before .before .before .before .before .before .before .before .before .before in
+    replays-ended (begins k) (k .run .ensures) (f .finish .ensures)
 
 pub replay-spec : {M : Type 1} → statement M
 replay-spec =

@@ -1,8 +1,8 @@
 -- `replay::run` meets its contract.
 -- Assumes nothing.
-use mathlib.Core.Path.{_≡_, refl, subst, _∙_}
+use mathlib.Core.Path.{_≡_, refl, _∙_}
 use mathlib.Core.Bool.{false}
-use Prim.Native.Nat.{_≤_, _+_, _-_}
+use Prim.Native.Nat.{ℕ, _≤_, _+_, _-_}
 use native.Mathlib.Omega.{arith}
 use lib.ListN.{length}
 use Rattle.replay.proofs.ChunkLaws.{Ran, ran-none, ran-more, ran-stops, turn-within, turn-further}
@@ -10,8 +10,19 @@ use borrow.Author.Needs.{needs}
 use Rattle.replay.proofs.run.Statement.{statement}
 use Rattle.replay.proofs.run.Tie as tie
 
+-- the largest number of the counter of bytes that are left
+abbrev most : ℕ
+most = 18446744073709551615
+
 abbrev Inv-loop : tie.InvT-loop
-Inv-loop store₀ table₀ list₀ line₀ chunk₀ left₀ held₀ store table list line chunk left held = Ran store₀ table₀ line₀ 0 store table list line held (18446744073709551615 - left) × (left ≤ 18446744073709551615) × (length store ≡ length store₀) × (length table ≡ length table₀) × (length list ≡ length list₀) × (length line ≡ length line₀) × (length chunk ≡ length chunk₀)
+Inv-loop store₀ table₀ list₀ line₀ chunk₀ left₀ held₀ store table list line chunk left held =
+    Ran store₀ table₀ line₀ 0 store table list line held (most - left)
+    × (left ≤ most)
+    × (length store ≡ length store₀)
+    × (length table ≡ length table₀)
+    × (length list ≡ length list₀)
+    × (length line ≡ length line₀)
+    × (length chunk ≡ length chunk₀)
 
 abbrev μ-loop : tie.MeasureT-loop
 μ-loop store₀ table₀ list₀ line₀ chunk₀ left₀ held₀ store table list line chunk left held = left
@@ -40,17 +51,28 @@ within k =
     omega (arith, w, o .kept .1 .1 .1 .1 .1 .0, k .before .before .before .before .before .before .loop-test .taken)
 
 -- after one more read
-once-more : (k : tie.After-read-once Inv-loop μ-loop) → Ran (start k .args .store .now) (start k .args .table .now) (start k .args .line .now) 0 (k .read-once .last .0) (k .read-once .last .1 .0) (k .read-once .last .1 .1 .0) (k .read-once .last .1 .1 .1 .0) (k .read-once .result .held) (18446744073709551615 - (at-loop k .loop .left - k .read-once .result .taken))
+once-more :
+    (k : tie.After-read-once Inv-loop μ-loop)
+    → Ran
+    (start k .args .store .now)
+    (start k .args .table .now)
+    (start k .args .line .now)
+    0
+    (k .read-once .last .0)
+    (k .read-once .last .1 .0)
+    (k .read-once .last .1 .1 .0)
+    (k .read-once .last .1 .1 .1 .0)
+    (k .read-once .result .held)
+    (most - (at-loop k .loop .left - k .read-once .result .taken))
 once-more k =
     let l = at-loop k .loop in
     let o = k .read-once in
     let w = within k in
-    let n : (18446744073709551615 - l .left) + o .result .taken ≡ 18446744073709551615 - (l .left - o .result .taken) = omega (arith, l .inv .1, w) in
+    let n : (most - l .left) + o .result .taken ≡ most - (l .left - o .result .taken) = omega (arith, l .inv .1, w) in
     rw n at (ran-more (l .inv .0) (o .ensures))
 
 sub-left : tie.Need-sub-left Inv-loop μ-loop
-sub-left c =
-    within (c .before .before .before .before .before .before .before .before .before)
+sub-left c = within (c .before .before .before .before .before .before .before .before .before)
 
 sub-t21 : tie.Need-sub-t21 Inv-loop μ-loop
 sub-t21 c = search needs
