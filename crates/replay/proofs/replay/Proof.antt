@@ -50,7 +50,16 @@ returns c =
     replays-stopped (begins k) (k .run .ensures)
 
 finish-requires : tie.Need-finish-requires
-finish-requires c κs = search needs
+finish-requires c κs =
+    let k = c .before .before .before .before .before .before .before .before .before .before .before .before .before .before .before in
+    let r = k .run .ensures .ready in
+    record {
+      at-point = r .at-point;
+      list-long = r .list-long;
+      line-long = r .line-long;
+      few = omega (arith, r .few);
+      room = omega (arith, k .before .before .before .before .before .before .before .before .before .before .before .before .before .before .before .pre .4);
+    }
 
 slice-reshare-prefix-write-out : tie.Need-slice-reshare-prefix-write-out
 slice-reshare-prefix-write-out c = search needs
