@@ -189,7 +189,7 @@ pub record AnswersRead (got : ℤ) (chunk : List ℕ) (store table store′ tabl
   pub ended-is : turn .ended ≡ isEnd got
 
 -- the session at the end is the one after some input, the bytes taken of the chunks in order, whatever the session that the buffers stood for at the
--- start. The input has as many bytes as were taken; which bytes `read` gave has no definition, so no more can be said of it here
+-- start. The input has as many bytes as the run says it took; which bytes `read` gave has no definition, so no more can be said of it here
 pub record Runs (store table store′ table′ : List ℤ) (list′ line line′ : List ℕ) (used : ℕ) (stop : Stop) : Type 0 where
   pub ready : Ready store′ table′ list′ line′ (stop .held)
   pub input : List ℕ
