@@ -2,7 +2,7 @@
 -- Assumes nothing.
 use mathlib.Core.Path.{_≡_, refl, sym, ap, ap₂, subst, _∙_}
 use mathlib.Core.Bool.{Bool, true, false, not}
-use mathlib.Core.List.{List, [], _∷_, _++_}
+use mathlib.Core.List.{List, [], _++_}
 use Prim.Native.Nat.{ℕ, suc, _+_, _-_, _^_, _<_, _≤_}
 use native.Mathlib.Omega.{arith}
 use lib.Dec.{eqb}
@@ -18,7 +18,7 @@ use Rattle.rows.specs.Table.{tableWords}
 use Rattle.store.specs.Records.{storeWords}
 use Rattle.ledger.specs.Answers.{isAccepted}
 use Rattle.ledger.specs.Refusals.{firstToFail}
-use Rattle.ledger.specs.Machine.{Ledger, opened}
+use Rattle.ledger.specs.Machine.{opened}
 use Rattle.ledger.specs.Calls as L
 use Rattle.ledger.specs.declared.Answer.{Answer}
 use Rattle.libc.specs.Io.{Moved}

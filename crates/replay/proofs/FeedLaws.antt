@@ -19,7 +19,7 @@ use Rattle.lines.specs.Reading.{readLine, numbersAfter, callOf}
 use Rattle.lines.specs.declared.LineCall.{LineCall}
 use Rattle.lines.specs.declared.LineCall.the-variants.{NoCall}
 use Rattle.replay.specs.Replay.{newline, listLength, answerTo, next, lineAnswered, afterLine, isEmpty}
-use Rattle.replay.specs.Session.{Session, taking, writing, sessionAfter, writtenFor, writtenAtEnd, wordsIn, lineBytes, answerBytes, Stands, AtPoint, AnswersLine, CanTake, Holds, EndsLine, Takes, Feeds, Ends}
+use Rattle.replay.specs.Session.{Session, taking, writing, sessionAfter, writtenFor, wordsIn, lineBytes, answerBytes, Stands, AtPoint, AnswersLine, CanTake, Holds, EndsLine, Takes, Feeds, Ends}
 use Rattle.replay.specs.declared.feeding.Place.{Place}
 use Rattle.replay.specs.declared.feeding.Fed.{Fed}
 

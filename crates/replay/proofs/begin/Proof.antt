@@ -1,8 +1,5 @@
 -- `replay::begin` meets its contract.
 -- Assumes nothing.
-use mir.Syntax.{w32}
-use lib.IntN.{pos}
-use Rattle.ints.proofs.Machine.{held}
 use Rattle.replay.proofs.ChunkLaws.{begins}
 use borrow.Author.Needs.{needs}
 use Rattle.replay.proofs.begin.Statement.{statement}

@@ -1,9 +1,7 @@
 -- `replay::streams::write_out` meets its contract.
 -- Assumes nothing.
 use Prim.Native.Nat.{_≤_, _-_}
-use native.Mathlib.Omega.{arith}
-use lib.ListN.{length, drop, length-drop}
-use lib.Seq.{length-take-le}
+use lib.ListN.{length}
 use borrow.Author.Needs.{needs}
 use Rattle.replay.proofs.streams.write_out.Statement.{statement}
 use Rattle.replay.proofs.streams.write_out.Tie as tie
