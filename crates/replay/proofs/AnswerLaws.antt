@@ -2,19 +2,18 @@
 -- newline stands right behind what was written.
 -- Assumes nothing.
 use mathlib.Core.Path.{_≡_, refl, sym, ap, ap₂, subst, _∙_}
-use mathlib.Core.Bool.{Bool, true, false, cond, _&&_, not}
+use mathlib.Core.Bool.{Bool, true, false, cond, not}
 use mathlib.Core.List.{List, [], _∷_, _++_, map, append-assoc}
-use Prim.Native.Nat.{ℕ, zero, suc, _+_, _*_, _-_, _<_, _≤_}
+use Prim.Native.Nat.{ℕ, suc, _+_, _-_, _<_, _≤_}
 use Prim.Native.Char.{code}
 use native.Mathlib.Omega.{arith}
 use lib.Dec.{eqb, ltb}
 use lib.IntN.{ℤ, pos}
-use lib.ListN.{length, getD, take, drop, set, length-append, length-drop, length-take, take-append-drop}
-use lib.Seq.{take-all, take-length, length-take-le, set-at, drop-append-le, drop-cons, drop-nil}
+use lib.ListN.{length, getD, take, drop, set, length-append, length-take, take-append-drop}
+use lib.Seq.{length-take-le, set-at, drop-append-le, drop-cons}
 use borrow.Author.Tests.{eq-eqb, ltb-false}
 use Rattle.ints.specs.Whole.{up}
 use Rattle.ints.proofs.Truth.{and-true}
-use Rattle.ints.proofs.Parts.{true-false}
 use Rattle.grid.specs.declared.Rect.{Rect}
 use Rattle.grid.specs.declared.Report.{Report}
 use Rattle.rows.specs.Table.{tableWords, withSlotEmpty}
@@ -22,7 +21,7 @@ use Rattle.records.specs.Records.{storeWords, nowOf, storeOf}
 use Rattle.records.specs.Soundness.{isSound}
 use Rattle.records.proofs.SoundLaws as Sound
 use Rattle.ledger.specs.Answers.{isAccepted, numberOf, valueOf, countsOf}
-use Rattle.ledger.specs.Refusals.{Check, check, unless, firstToFail, badTime, badAskTime, badAsk}
+use Rattle.ledger.specs.Refusals.{unless, firstToFail, badTime, badAskTime, badAsk}
 use Rattle.ledger.specs.Machine.{Ledger, opened}
 use Rattle.ledger.specs.Calls as L
 use Rattle.ledger.specs.Calls.{Reply, answerOfOpen}
@@ -32,10 +31,10 @@ use Rattle.engine.specs.Index.{Outcome, wrongLength, unsound, settled, openOut,
 use Rattle.engine.specs.Gives.{Gives, GivesList}
 use Rattle.engine.proofs.SmallAnswers.{SmallAnswer, ask-small}
 use Rattle.history.specs.Index as H
-use Rattle.history.specs.Index.{Words, LentCall, fed, openedWords}
+use Rattle.history.specs.Index.{LentCall, fed, openedWords}
 use Rattle.history.specs.Points.{Point}
 use Rattle.history.proofs.Points.{every-point-goes-on}
-use Rattle.lines.specs.Lines.{width, greatest, isListing, answerNumbers, answerLine, noCallLine, areWritable, isWritable, AnswerRoom, Written}
+use Rattle.lines.specs.Lines.{greatest, isListing, answerLine, noCallLine, areWritable, isWritable, AnswerRoom, Written}
 use Rattle.lines.specs.Reading.{readLine}
 use Rattle.lines.proofs.LineLaws.{pos-writable}
 use Rattle.lines.specs.declared.LineCall.{LineCall}

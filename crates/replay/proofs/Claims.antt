@@ -8,7 +8,7 @@ use lib.Dec.{eqb}
 use Rattle.ledger.specs.Machine.{Ledger}
 use Rattle.replay.specs.Replay.{newline, lineAnswered, afterLine, linesFrom, answered, replayed}
 use Rattle.replay.specs.Session.{Session, begun, taking, writing, sessionAfter, writtenFor, writtenAtEnd}
-use Rattle.replay.specs.Claims.{BytesAreTheLines, OneAfterTheOther, ChunksAreOneInput}
+use Rattle.replay.specs.Claims.{BytesAreTheLines, ChunksAreOneInput}
 
 -- ---- the lines
 

@@ -9,8 +9,8 @@ use native.Mathlib.Omega.{arith}
 use Prim.Native.Char.{code}
 use lib.Dec.{eqb, leb}
 use lib.IntN.{ℤ}
-use lib.ListN.{length, getD, take, drop, set, length-append, length-take, length-drop, length-set}
-use lib.Seq.{take-all, take-append-seam, take-append-add, take-at, take-suc, take-suc-set, length-take-le, take-length, take-nil}
+use lib.ListN.{length, getD, take, drop, set, length-append, length-drop}
+use lib.Seq.{take-all, take-append-seam, take-append-add, take-suc, take-suc-set, length-take-le, take-nil}
 use borrow.Author.Tests.{eq-eqb, ne-eqb, leb-true, leb-false}
 use Rattle.ledger.specs.Machine.{Ledger}
 use Rattle.history.specs.Points.{Point}
@@ -19,9 +19,8 @@ use Rattle.lines.specs.Reading.{readLine, numbersAfter, callOf}
 use Rattle.lines.specs.declared.LineCall.{LineCall}
 use Rattle.lines.specs.declared.LineCall.the-variants.{NoCall}
 use Rattle.replay.specs.Replay.{newline, listLength, answerTo, next, lineAnswered, afterLine, isEmpty}
-use Rattle.replay.specs.Session.{Session, taking, writing, sessionAfter, writtenFor, writtenAtEnd, wordsIn, lineBytes, answerBytes, Stands, AtPoint, AnswersLine, CanTake, Holds, EndsLine, Takes, Feeds, Ends}
+use Rattle.replay.specs.Session.{Session, taking, writing, sessionAfter, writtenFor, wordsIn, lineBytes, answerBytes, Stands, AtPoint, AnswersLine, CanTake, Holds, EndsLine, Takes, Feeds, Ends}
 use Rattle.replay.specs.declared.feeding.Place.{Place}
-use Rattle.replay.specs.declared.feeding.Fed.{Fed}
 
 -- ---- the first bytes of a line
 
@@ -153,7 +152,7 @@ module _ (b : ℕ) (line : List ℕ) (at : Place) (store table : List ℤ) (out 
   }
 
 -- the bytes held, by themselves, are a session that the buffers stand for
-alone : (store table : List ℤ) (line : List ℕ) (used : ℕ) (p : AtPoint store table) → length line ≡ lineBytes → used ≤ lineBytes → Stands (record { ledger = p .ledger; line = take used line }) store table line used
+pub alone : (store table : List ℤ) (line : List ℕ) (used : ℕ) (p : AtPoint store table) → length line ≡ lineBytes → used ≤ lineBytes → Stands (record { ledger = p .ledger; line = take used line }) store table line used
 alone store table line used p long few =
     record { point = p .point; few = few; begins = sym (take-all lineBytes (take used line) (omega (arith, length-take-le used line (omega (arith, long))))); long = long }
 
@@ -275,24 +274,40 @@ module _ (store table : List ℤ) (line : List ℕ) (out : List ℕ) where
       go [] e = refl
       go (b ∷ l) e = absurd (omega (arith, ap length e))
 
-  pub ends-empty : (used : ℕ) → used ≡ 0 → Ends store table line out used 0
+  pub ends-empty : (used : ℕ) → used ≡ 0 → Ends store table store table line out used 0
   ends-empty used e = record {
-    writes = λ s k. sym (ap (λ (l : List ℕ). cond (isEmpty l) [] (lineAnswered (s .ledger) l)) (nothing-held s (subst (Stands s store table line) e k)));
+    leads = λ s k. subst (λ (l : Ledger). Point l (wordsIn store table)) (sym (ap (λ (l : List ℕ). cond (isEmpty l) (s .ledger) (afterLine (s .ledger) l)) (none s k))) (k .point);
+    writes = λ s k. sym (ap (λ (l : List ℕ). cond (isEmpty l) [] (lineAnswered (s .ledger) l)) (none s k));
     fits = omega arith;
   }
+    where
+      none : (s : Session) → Stands s store table line used → s .line ≡ []
+      none s k = nothing-held s (subst (Stands s store table line) e k)
 
-  pub ends-line : (used : ℕ) → 0 < used → (store′ table′ : List ℤ) (out′ : List ℕ) (r : ℕ) → EndsLine line (record { held = used; filled = 0 }) store table store′ table′ out out′ r → Ends store table line out′ used r
+  pub ends-line :
+      (used : ℕ)
+      → 0 < used
+      → (store′ table′ : List ℤ) (out′ : List ℕ) (r : ℕ)
+      → EndsLine line (record { held = used; filled = 0 }) store table store′ table′ out out′ r
+      → Ends store table store′ table′ line out′ used r
   ends-line used h store′ table′ out′ r a = record {
+    leads = λ s k.
+        subst (λ (l : Ledger). Point l (wordsIn store′ table′))
+        (ap (next (s .ledger)) (told s k) ∙ sym (ap (λ (b : Bool). cond b (s .ledger) (afterLine (s .ledger) (s .line))) (some-held s k)))
+        (a .leads (s .ledger) (k .point));
     writes = λ s k.
         a .writes (s .ledger) (k .point)
-        ∙ ap (λ (c : LineCall). answerTo (s .ledger) c ++ newline ∷ []) (ap readLine (k .begins) ∙ first-bytes-tell (s .line))
-        ∙ some-held s k;
+        ∙ ap (λ (c : LineCall). answerTo (s .ledger) c ++ newline ∷ []) (told s k)
+        ∙ sym (ap (λ (b : Bool). cond b [] (lineAnswered (s .ledger) (s .line))) (some-held s k));
     fits = a .fits;
   }
     where
-      some-held : (s : Session) → Stands s store table line used → lineAnswered (s .ledger) (s .line) ≡ writtenAtEnd s
+      told : (s : Session) → Stands s store table line used → readLine (take used line) ≡ readLine (s .line)
+      told s k = ap readLine (k .begins) ∙ first-bytes-tell (s .line)
+
+      some-held : (s : Session) → Stands s store table line used → isEmpty (s .line) ≡ false
       some-held s k = go (s .line) (k .begins)
         where
-          go : (l : List ℕ) → take used line ≡ take lineBytes l → lineAnswered (s .ledger) l ≡ cond (isEmpty l) [] (lineAnswered (s .ledger) l)
+          go : (l : List ℕ) → take used line ≡ take lineBytes l → isEmpty l ≡ false
           go [] e = absurd (omega (arith, ap length e, length-take-le used line (omega (arith, k .few, k .long))))
           go (b ∷ l) e = refl

@@ -1,11 +1,8 @@
 // The bytes of the input, taken one by one: document 01, "Lines". A newline ends a line, which is answered; only the first bytes of a line are held,
 // so the memory does not grow with it.
-ghost use mathlib.Core.Path.{_≡_};
-ghost use mathlib.Core.List.{[], _∷_, _++_};
 ghost use Prim.Native.Nat.{_≤_, _+_};
-ghost use lib.ListN.{length, take};
-ghost use Rattle.replay.specs.Replay.{listLength};
-ghost use Rattle.replay.specs.Session.{lineBytes, answerBytes, AtPoint, CanTake, CanFeed, Holds, EndsLine, Takes, Feeds, Ends};
+ghost use lib.ListN.{length};
+ghost use Rattle.replay.specs.Session.{CanTake, CanFeed, Holds, EndsLine, Takes, Feeds, Ends};
 use crate::answering;
 
 // The bytes of the longest answer, with its newline.
@@ -119,7 +116,7 @@ pub fn finish(
     out: &mut [u8],
 ) -> usize
     requires { ⌜ CanFeed (now store) (now table) (now list) (now line) held (now out) ⌝ }
-    ensures { λ r. ⌜ Ends (now (store .entry)) (now (table .entry)) (now (line .entry)) (now (out .exit)) held r ⌝ }
+    ensures { λ r. ⌜ Ends (now (store .entry)) (now (table .entry)) (now (store .exit)) (now (table .exit)) (now (line .entry)) (now (out .exit)) held r ⌝ }
 {
     if held == 0 {
         return 0;

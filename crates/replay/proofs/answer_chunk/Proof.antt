@@ -1,18 +1,24 @@
 -- `replay::answer_chunk` meets its contract.
 -- Assumes nothing.
 use mathlib.Core.Path.{_≡_, refl, sym, _∙_}
-use Prim.Native.Nat.{_≤_, _-_}
+use Prim.Native.Nat.{_+_, _-_}
 use native.Mathlib.Omega.{arith}
 use lib.ListN.{length, drop, length-drop}
 use lib.Seq.{length-take-le, take-all}
 use Rattle.replay.specs.Session.{Feeds}
-use Rattle.replay.proofs.ChunkLaws.{can-feed, Through, through-begins, through-more, through-further, through-fits, through-stops, through-ends}
+use Rattle.replay.proofs.ChunkLaws.{can-feed, Through, through-begins, through-more, through-stops, through-ends}
 use borrow.Author.Needs.{needs}
 use Rattle.replay.proofs.answer_chunk.Statement.{statement}
 use Rattle.replay.proofs.answer_chunk.Tie as tie
 
 abbrev Inv-loop : tie.InvT-loop
-Inv-loop store₀ table₀ list₀ line₀ held chunk out₀ used₀ from₀ store table list line out used from = Through chunk store₀ table₀ line₀ held store table list line used from × (65536 ≡ length out) × (length store ≡ length store₀) × (length table ≡ length table₀) × (length list ≡ length list₀) × (length line ≡ length line₀)
+Inv-loop store₀ table₀ list₀ line₀ held chunk out₀ used₀ from₀ store table list line out used from =
+    Through chunk store₀ table₀ line₀ held store table list line used from
+    × (65536 ≡ length out)
+    × (length store ≡ length store₀)
+    × (length table ≡ length table₀)
+    × (length list ≡ length list₀)
+    × (length line ≡ length line₀)
 
 abbrev μ-loop : tie.MeasureT-loop
 μ-loop store₀ table₀ list₀ line₀ held chunk out₀ used₀ from₀ store table list line out used from = length chunk - from
@@ -21,7 +27,9 @@ large-buffer-requires : tie.Need-large-buffer-requires Inv-loop μ-loop
 large-buffer-requires c κs = search needs
 
 loop-holds : tie.Need-loop-holds Inv-loop μ-loop
-loop-holds c = let a = c .before .before .before .before in (through-begins (a .args .chunk .now) (a .args .store .now) (a .args .table .now) (a .args .line .now) (a .args .held) (a .args .list .now) (a .pre), c .large-buffer .ensures, refl, refl, refl, refl)
+loop-holds c =
+    let a = c .before .before .before .before in
+    (through-begins (a .pre), c .large-buffer .ensures, refl, refl, refl, refl)
 
 sub-feed : tie.Need-sub-feed Inv-loop μ-loop
 sub-feed c = search needs
@@ -38,24 +46,69 @@ slice-aggregate-feed c = search needs
 feed-requires : tie.Need-feed-requires Inv-loop μ-loop
 feed-requires c κs =
     let l = c .before .before .before .before .before .before .before .loop in
-    can-feed (l .store) (l .table) (l .list) (l .line) (l .used) (l .out) (l .inv .0 .here) (l .inv .1)
+    can-feed (l .inv .0 .ready) (omega (arith, l .inv .1))
 
-feeds : (c : tie.After-feed Inv-loop μ-loop) → Feeds (drop (c .before .before .before .before .before .before .before .before .loop .from) (c .before .before .before .before .before .before .before .before .before .before .before .before .before .args .chunk .now)) (c .before .before .before .before .before .before .before .before .loop .store) (c .before .before .before .before .before .before .before .before .loop .table) (c .feed .last .0) (c .feed .last .1 .0) (c .before .before .before .before .before .before .before .before .loop .line) (c .feed .last .1 .1 .1 .0) (c .feed .last .1 .1 .1 .1 .1 .1 .0) (c .before .before .before .before .before .before .before .before .loop .used) (c .feed .result)
-feeds c =
-    let chunk = c .before .before .before .before .before .before .before .before .before .before .before .before .before .args .chunk .now in
-    let from = c .before .before .before .before .before .before .before .before .loop .from in
-    rw (take-all (length chunk - from) (drop from chunk) (omega (arith, length-drop from chunk))) at (c .feed .ensures)
+abbrev at-loop : tie.After-feed Inv-loop μ-loop → tie.At-loop Inv-loop μ-loop
+at-loop k = k .before .before .before .before .before .before .before .before
+
+abbrev start : tie.After-feed Inv-loop μ-loop → tie.Start Inv-loop μ-loop
+start k = k .before .before .before .before .before .before .before .before .before .before .before .before .before
+
+-- what `feed` leaves, over the rest of the chunk
+feeds :
+    (k : tie.After-feed Inv-loop μ-loop)
+    → Feeds
+    (drop (at-loop k .loop .from) (start k .args .chunk .now))
+    (at-loop k .loop .store)
+    (at-loop k .loop .table)
+    (k .feed .last .0)
+    (k .feed .last .1 .0)
+    (at-loop k .loop .line)
+    (k .feed .last .1 .1 .1 .0)
+    (k .feed .last .1 .1 .1 .1 .1 .1 .0)
+    (at-loop k .loop .used)
+    (k .feed .result)
+feeds k =
+    let chunk = start k .args .chunk .now in
+    let from = at-loop k .loop .from in
+    rw (take-all (length chunk - from) (drop from chunk) (omega (arith, length-drop from chunk))) at (k .feed .ensures)
+
+-- after the bytes that it took
+further :
+    (k : tie.After-feed Inv-loop μ-loop)
+    → Through
+    (start k .args .chunk .now)
+    (start k .args .store .now)
+    (start k .args .table .now)
+    (start k .args .line .now)
+    (start k .args .held)
+    (k .feed .last .0)
+    (k .feed .last .1 .0)
+    (k .feed .last .1 .1 .0)
+    (k .feed .last .1 .1 .1 .0)
+    (k .feed .result .held)
+    (at-loop k .loop .from + k .feed .result .taken)
+further k =
+    let f = k .feed in
+    let l = at-loop k .loop in
+    through-more (l .inv .0) (f .kept .0) (f .kept .1 .0) (f .kept .1 .1 .0) (feeds k)
+
+add-from : tie.Need-add-from Inv-loop μ-loop
+add-from c =
+    let k = c .before .before .before .before .before .before .before .before in
+    let w = further k .within in
+    let g = start k .good .1 .1 .1 .1 .1 .0 in
+    omega (arith, g, w)
 
 array-share-prefix-out : tie.Need-array-share-prefix-out Inv-loop μ-loop
 array-share-prefix-out c = search needs
 
-slice-aggregate-write-all : tie.Need-slice-aggregate-write-all Inv-loop μ-loop
-slice-aggregate-write-all c =
-    let f = c .before .before .before .before .before .before .before .before .feed in
-    sym (length-take-le _ _ (omega (arith, feeds (c .before .before .before .before .before .before .before .before) .fits)))
+slice-aggregate-write-out : tie.Need-slice-aggregate-write-out Inv-loop μ-loop
+slice-aggregate-write-out c =
+    sym (length-take-le _ _ (omega (arith, feeds (c .before .before .before .before .before .before .before .before .before) .fits)))
 
-write-all-requires : tie.Need-write-all-requires Inv-loop μ-loop
-write-all-requires c κs = search needs
+write-out-requires : tie.Need-write-out-requires Inv-loop μ-loop
+write-out-requires c κs = search needs
 
 same-length : tie.Need-same-length Inv-loop μ-loop
 same-length c = search needs
@@ -71,37 +124,23 @@ same-length-4 c = search needs
 
 returns : tie.Need-returns Inv-loop μ-loop
 returns c =
-    let k = c .before .before .before .before .before .before .before .before .before .before in
-    let f = k .feed in
-    let l = k .before .before .before .before .before .before .before .before .loop in
-    let a = k .before .before .before .before .before .before .before .before .before .before .before .before .before in
-    through-stops (a .args .chunk .now) (a .args .store .now) (a .args .table .now) (a .args .line .now) (a .args .held) (l .store) (l .table) (l .list) (l .line) (l .used) (l .from) (l .inv .0) (f .last .0) (f .last .1 .0) (f .last .1 .1 .0) (f .last .1 .1 .1 .0) (f .last .1 .1 .1 .1 .1 .1 .0) (f .result) (f .kept .1 .1 .0) (feeds k)
-
-add-from : tie.Need-add-from Inv-loop μ-loop
-add-from c =
     let k = c .before .before .before .before .before .before .before .before .before .before .before in
-    let f = k .feed in
-    let l = k .before .before .before .before .before .before .before .before .loop in
-    let a = k .before .before .before .before .before .before .before .before .before .before .before .before .before in
-    let w = through-more (a .args .chunk .now) (a .args .store .now) (a .args .table .now) (a .args .line .now) (a .args .held) (l .store) (l .table) (l .list) (l .line) (l .used) (l .from) (l .inv .0) (f .last .0) (f .last .1 .0) (f .last .1 .1 .0) (f .last .1 .1 .1 .0) (f .last .1 .1 .1 .1 .1 .1 .0) (f .result) (f .kept .1 .1 .0) (feeds k) .within in
-    let g = a .good .1 .1 .1 .1 .1 .0 in omega (arith, g, w)
+    through-stops (further k)
 
 loop-less : tie.Need-loop-less Inv-loop μ-loop
 loop-less c =
     let k = c .before .before .before .before .before .before .before .before .before .before .before in
-    let f = k .feed in
-    let l = k .before .before .before .before .before .before .before .before .loop in
-    let a = k .before .before .before .before .before .before .before .before .before .before .before .before .before in
-    let m = through-further (a .args .chunk .now) (a .args .store .now) (a .args .table .now) (a .args .line .now) (a .args .held) (l .store) (l .table) (l .list) (l .line) (l .used) (l .from) (l .inv .0) (f .last .0) (f .last .1 .0) (f .last .1 .1 .0) (f .last .1 .1 .1 .0) (f .last .1 .1 .1 .1 .1 .1 .0) (f .result) (f .kept .1 .1 .0) (feeds k) (c .before .before .before .before .before .before .before .before .before .before .before .before .before .before .before .before .before .before .loop-test .taken) in
-    omega (arith, c .before .before .before .before .before .before .before .before .before .before .before .before .before .before .before .before .before .before .loop-test .taken)
+    let t = k .before .before .before .before .before .before .before .loop-test .taken in
+    let d = length-drop (at-loop k .loop .from) (start k .args .chunk .now) in
+    let m = feeds k .goes-on (omega (arith, d, t)) in
+    omega (arith, t)
 
 loop-again : tie.Need-loop-again Inv-loop μ-loop
 loop-again c =
     let k = c .before .before .before .before .before .before .before .before .before .before .before in
     let f = k .feed in
-    let l = k .before .before .before .before .before .before .before .before .loop in
-    let a = k .before .before .before .before .before .before .before .before .before .before .before .before .before in
-    (through-more (a .args .chunk .now) (a .args .store .now) (a .args .table .now) (a .args .line .now) (a .args .held) (l .store) (l .table) (l .list) (l .line) (l .used) (l .from) (l .inv .0) (f .last .0) (f .last .1 .0) (f .last .1 .1 .0) (f .last .1 .1 .1 .0) (f .last .1 .1 .1 .1 .1 .1 .0) (f .result) (f .kept .1 .1 .0) (feeds k), l .inv .1 ∙ sym (f .kept .1 .1 .1 .1 .1 .1 .0), f .kept .0 ∙ l .inv .2, f .kept .1 .0 ∙ l .inv .3, f .kept .1 .1 .0 ∙ l .inv .4, f .kept .1 .1 .1 .0 ∙ l .inv .5)
+    let l = at-loop k .loop in
+    (further k, l .inv .1 ∙ sym (f .kept .1 .1 .1 .1 .1 .1 .0), f .kept .0 ∙ l .inv .2, f .kept .1 .0 ∙ l .inv .3, f .kept .1 .1 .0 ∙ l .inv .4, f .kept .1 .1 .1 .0 ∙ l .inv .5)
 
 same-length-5 : tie.Need-same-length-5 Inv-loop μ-loop
 same-length-5 c = search needs
@@ -118,8 +157,34 @@ same-length-8 c = search needs
 returns-2 : tie.Need-returns-2 Inv-loop μ-loop
 returns-2 c =
     let l = c .before .loop in
-    let a = c .before .before .before .before .before .before in
-    through-ends (a .args .chunk .now) (a .args .store .now) (a .args .table .now) (a .args .line .now) (a .args .held) (l .store) (l .table) (l .list) (l .line) (l .used) (l .from) (l .inv .0) (c .loop-test .left)
+    through-ends (l .inv .0) (c .loop-test .left)
 
 pub answer-chunk-spec : {M : Type 1} → statement M
-answer-chunk-spec = tie.close (tie.spec Inv-loop μ-loop large-buffer-requires loop-holds sub-feed part-feed-start part-feed-end slice-aggregate-feed feed-requires array-share-prefix-out slice-aggregate-write-all write-all-requires same-length same-length-2 same-length-3 same-length-4 returns add-from loop-less loop-again same-length-5 same-length-6 same-length-7 same-length-8 returns-2)
+answer-chunk-spec =
+    tie.close
+    (tie.spec
+    Inv-loop
+    μ-loop
+    large-buffer-requires
+    loop-holds
+    sub-feed
+    part-feed-start
+    part-feed-end
+    slice-aggregate-feed
+    feed-requires
+    add-from
+    array-share-prefix-out
+    slice-aggregate-write-out
+    write-out-requires
+    same-length
+    same-length-2
+    same-length-3
+    same-length-4
+    returns
+    loop-less
+    loop-again
+    same-length-5
+    same-length-6
+    same-length-7
+    same-length-8
+    returns-2)

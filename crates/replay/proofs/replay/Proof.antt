@@ -1,9 +1,11 @@
 -- `replay::replay` meets its contract.
 -- Assumes nothing.
-use mathlib.Core.Path.{sym, _∙_}
+use mathlib.Core.Path.{sym}
 use native.Mathlib.Omega.{arith}
 use lib.Seq.{length-take-le}
-use Rattle.replay.proofs.ChunkLaws.{begun-session, can-feed}
+use Rattle.replay.specs.Session.{begun, Stands}
+use Rattle.replay.proofs.ChunkLaws.{begun-stands, begun-ready, replays-stopped, replays-ended}
+use borrow.Author.Needs.{needs}
 use borrow.Author.Needs.{needs}
 use Rattle.replay.proofs.replay.Statement.{statement}
 use Rattle.replay.proofs.replay.Tie as tie
@@ -13,30 +15,9 @@ begin-requires c κs = search needs
 
 run-requires : tie.Need-run-requires
 run-requires c κs =
-    let b = c .before .before .before .before .before .before in
-    let a = b .before .before .before .before .before in
-    begun-session (b .begin .last .0) (b .begin .last .1 .0) (a .args .list .now) (a .args .line .now) (b .begin .ensures) (a .pre .2) (a .pre .3)
-
-large-buffer-requires : tie.Need-large-buffer-requires
-large-buffer-requires c κs = search needs
-
-slice-aggregate-finish : tie.Need-slice-aggregate-finish
-slice-aggregate-finish c = search needs
-
-finish-requires : tie.Need-finish-requires
-finish-requires c κs =
-    let o = c .before .before .before .before .before in
-    let r = o .before .before .before .before .before .before .before in
-    can-feed (r .run .last .0) (r .run .last .1 .0) (r .run .last .1 .1 .0) (r .run .last .1 .1 .1 .0) (r .run .result) (o .large-buffer .result) (r .run .ensures) (o .large-buffer .ensures)
-
-array-share-prefix-out : tie.Need-array-share-prefix-out
-array-share-prefix-out c = search needs
-
-slice-aggregate-write-all : tie.Need-slice-aggregate-write-all
-slice-aggregate-write-all c = sym (length-take-le _ _ (omega arith))
-
-write-all-requires : tie.Need-write-all-requires
-write-all-requires c κs = search needs
+    let b = c .before .before .before .before .before .before .before .begin in
+    let a = c .before .before .before .before .before .before .before .before .before .before .before .before .before .before in
+    begun-ready (b .ensures) (a .pre .2) (a .pre .3)
 
 same-length : tie.Need-same-length
 same-length c = search needs
@@ -50,8 +31,91 @@ same-length-3 c = search needs
 same-length-4 : tie.Need-same-length-4
 same-length-4 c = search needs
 
+same-length-5 : tie.Need-same-length-5
+same-length-5 c = search needs
+
+abbrev opening : tie.After-run → tie.After-begin
+opening k = k .before .before .before .before .before .before .before .before
+
+abbrev start : tie.After-run → tie.Start
+start k = k .before .before .before .before .before .before .before .before .before .before .before .before .before .before .before
+
+-- the buffers that the run starts with are those of the session before the first byte
+begins : (k : tie.After-run) → Stands begun (opening k .begin .last .0) (opening k .begin .last .1 .0) (start k .args .line .now) 0
+begins k = begun-stands (opening k .begin .ensures) (start k .pre .3)
+
 returns : tie.Need-returns
-returns c = tt
+returns c =
+    let k = c .before .before .before .before .before .before .before .before .before .before in
+    replays-stopped (begins k) (k .run .ensures)
+
+finish-requires : tie.Need-finish-requires
+finish-requires c κs =
+    let k = c .before .before .before .before .before .before .before .before .before .before .before .before .before .before .before in
+    let r = k .run .ensures .ready in
+    record {
+      at-point = r .at-point;
+      list-long = r .list-long;
+      line-long = r .line-long;
+      few = omega (arith, r .few);
+      room = omega (arith, k .before .before .before .before .before .before .before .before .before .before .before .before .before .before .before .pre .4);
+    }
+
+slice-reshare-prefix-write-out : tie.Need-slice-reshare-prefix-write-out
+slice-reshare-prefix-write-out c = search needs
+
+slice-aggregate-write-out : tie.Need-slice-aggregate-write-out
+slice-aggregate-write-out c =
+    let f = c .before .before .before .before .before .before .before .before .before .finish in
+    sym (length-take-le _ _ (omega (arith, f .ensures .fits)))
+
+write-out-requires : tie.Need-write-out-requires
+write-out-requires c κs = search needs
+
+same-length-6 : tie.Need-same-length-6
+same-length-6 c = search needs
+
+same-length-7 : tie.Need-same-length-7
+same-length-7 c = search needs
+
+same-length-8 : tie.Need-same-length-8
+same-length-8 c = search needs
+
+same-length-9 : tie.Need-same-length-9
+same-length-9 c = search needs
+
+same-length-10 : tie.Need-same-length-10
+same-length-10 c = search needs
+
+same-length-11 : tie.Need-same-length-11
+same-length-11 c = search needs
+
+returns-2 : tie.Need-returns-2
+returns-2 c =
+    let f = c .before .before .before .before .before .before .before .before .before .before in
+    let k = f .before .before .before .before .before .before .before .before .before .before .before .before .before .before .before .before in
+    replays-ended (begins k) (k .run .ensures) (f .finish .ensures)
 
 pub replay-spec : {M : Type 1} → statement M
-replay-spec = tie.close (tie.spec begin-requires run-requires large-buffer-requires slice-aggregate-finish finish-requires array-share-prefix-out slice-aggregate-write-all write-all-requires same-length same-length-2 same-length-3 same-length-4 returns)
+replay-spec =
+    tie.close
+    (tie.spec
+    begin-requires
+    run-requires
+    same-length
+    same-length-2
+    same-length-3
+    same-length-4
+    same-length-5
+    returns
+    finish-requires
+    slice-reshare-prefix-write-out
+    slice-aggregate-write-out
+    write-out-requires
+    same-length-6
+    same-length-7
+    same-length-8
+    same-length-9
+    same-length-10
+    same-length-11
+    returns-2)

@@ -1,23 +1,81 @@
 -- `replay::run` meets its contract.
 -- Assumes nothing.
 use mathlib.Core.Path.{_≡_, refl, _∙_}
+use mathlib.Core.Bool.{false}
+use Prim.Native.Nat.{ℕ, _≤_, _+_, _-_}
+use native.Mathlib.Omega.{arith}
 use lib.ListN.{length}
-use Rattle.replay.specs.Session.{InSession}
+use Rattle.replay.proofs.ChunkLaws.{Ran, ran-none, ran-more, ran-stops, turn-within, turn-further}
 use borrow.Author.Needs.{needs}
 use Rattle.replay.proofs.run.Statement.{statement}
 use Rattle.replay.proofs.run.Tie as tie
 
+-- the largest number of the counter of bytes that are left
+abbrev most : ℕ
+most = 18446744073709551615
+
 abbrev Inv-loop : tie.InvT-loop
-Inv-loop store₀ table₀ list₀ line₀ turns₀ held₀ store table list line turns held = InSession store table list line held × (length store ≡ length store₀) × (length table ≡ length table₀) × (length list ≡ length list₀) × (length line ≡ length line₀)
+Inv-loop store₀ table₀ list₀ line₀ chunk₀ left₀ held₀ store table list line chunk left held =
+    Ran store₀ table₀ line₀ 0 store table list line held (most - left)
+    × (left ≤ most)
+    × (length store ≡ length store₀)
+    × (length table ≡ length table₀)
+    × (length list ≡ length list₀)
+    × (length line ≡ length line₀)
+    × (length chunk ≡ length chunk₀)
 
 abbrev μ-loop : tie.MeasureT-loop
-μ-loop store₀ table₀ list₀ line₀ turns₀ held₀ store table list line turns held = turns
+μ-loop store₀ table₀ list₀ line₀ chunk₀ left₀ held₀ store table list line chunk left held = left
 
 loop-holds : tie.Need-loop-holds Inv-loop μ-loop
-loop-holds c = (c .before .before .pre, refl, refl, refl, refl)
+loop-holds c =
+    let a = c .before .before .before in
+    (ran-none (a .pre), omega arith, refl, refl, refl, refl, refl)
 
 read-once-requires : tie.Need-read-once-requires Inv-loop μ-loop
-read-once-requires c κs = c .before .before .before .before .before .loop .inv .0
+read-once-requires c κs =
+    let r = c .before .before .before .before .before .before .loop .inv .0 .ready in
+    record { at-point = r .at-point; store-long = r .store-long; table-long = r .table-long; list-long = r .list-long; line-long = r .line-long; few = omega (arith, r .few) }
+
+abbrev at-loop : tie.After-read-once Inv-loop μ-loop → tie.At-loop Inv-loop μ-loop
+at-loop k = k .before .before .before .before .before .before .before
+
+abbrev start : tie.After-read-once Inv-loop μ-loop → tie.Start Inv-loop μ-loop
+start k = k .before .before .before .before .before .before .before .before .before .before .before
+
+-- the bytes taken are of those that are left
+within : (k : tie.After-read-once Inv-loop μ-loop) → k .read-once .result .taken ≤ at-loop k .loop .left
+within k =
+    let o = k .read-once in
+    let w = turn-within (o .ensures) in
+    omega (arith, w, o .kept .1 .1 .1 .1 .1 .0, k .before .before .before .before .before .before .loop-test .taken)
+
+-- after one more read
+once-more :
+    (k : tie.After-read-once Inv-loop μ-loop)
+    → Ran
+    (start k .args .store .now)
+    (start k .args .table .now)
+    (start k .args .line .now)
+    0
+    (k .read-once .last .0)
+    (k .read-once .last .1 .0)
+    (k .read-once .last .1 .1 .0)
+    (k .read-once .last .1 .1 .1 .0)
+    (k .read-once .result .held)
+    (most - (at-loop k .loop .left - k .read-once .result .taken))
+once-more k =
+    let l = at-loop k .loop in
+    let o = k .read-once in
+    let w = within k in
+    let n : (most - l .left) + o .result .taken ≡ most - (l .left - o .result .taken) = omega (arith, l .inv .1, w) in
+    rw n at (ran-more (l .inv .0) (o .ensures))
+
+sub-left : tie.Need-sub-left Inv-loop μ-loop
+sub-left c = within (c .before .before .before .before .before .before .before .before .before)
+
+sub-t21 : tie.Need-sub-t21 Inv-loop μ-loop
+sub-t21 c = search needs
 
 same-length : tie.Need-same-length Inv-loop μ-loop
 same-length c = search needs
@@ -31,23 +89,29 @@ same-length-3 c = search needs
 same-length-4 : tie.Need-same-length-4 Inv-loop μ-loop
 same-length-4 c = search needs
 
-returns : tie.Need-returns Inv-loop μ-loop
-returns c = c .before .before .before .before .before .before .before .before .read-once .ensures
+same-length-5 : tie.Need-same-length-5 Inv-loop μ-loop
+same-length-5 c = search needs
 
-sub-turns : tie.Need-sub-turns Inv-loop μ-loop
-sub-turns c = search needs
+returns : tie.Need-returns Inv-loop μ-loop
+returns c =
+    let k = c .before .before .before .before .before .before .before .before .before .before .before in
+    ran-stops (k .read-once .result .ended) (once-more k)
 
 loop-less : tie.Need-loop-less Inv-loop μ-loop
-loop-less c = search needs
+loop-less c =
+    let k = c .before .before .before .before .before .before .before .before .before .before .before in
+    let f = turn-further (k .read-once .ensures) (c .if1 .left) in
+    omega (arith, f, within k)
 
 loop-again : tie.Need-loop-again Inv-loop μ-loop
 loop-again c =
-    let k = c .before .before .before .before .before .before .before .before .read-once in
-    let l = c .before .before .before .before .before .before .before .before .before .before .before .before .before .before .loop .inv in
-    (k .ensures, k .kept .0 ∙ l .1, k .kept .1 .0 ∙ l .2, k .kept .1 .1 .0 ∙ l .3, k .kept .1 .1 .1 .0 ∙ l .4)
+    let k = c .before .before .before .before .before .before .before .before .before .before .before in
+    let o = k .read-once in
+    let l = at-loop k .loop in
+    (once-more k, omega (arith, l .inv .1), o .kept .0 ∙ l .inv .2, o .kept .1 .0 ∙ l .inv .3, o .kept .1 .1 .0 ∙ l .inv .4, o .kept .1 .1 .1 .0 ∙ l .inv .5, o .kept .1 .1 .1 .1 .1 .0 ∙ l .inv .6)
 
-same-length-5 : tie.Need-same-length-5 Inv-loop μ-loop
-same-length-5 c = search needs
+sub-t22 : tie.Need-sub-t22 Inv-loop μ-loop
+sub-t22 c = search needs
 
 same-length-6 : tie.Need-same-length-6 Inv-loop μ-loop
 same-length-6 c = search needs
@@ -58,8 +122,39 @@ same-length-7 c = search needs
 same-length-8 : tie.Need-same-length-8 Inv-loop μ-loop
 same-length-8 c = search needs
 
+same-length-9 : tie.Need-same-length-9 Inv-loop μ-loop
+same-length-9 c = search needs
+
+same-length-10 : tie.Need-same-length-10 Inv-loop μ-loop
+same-length-10 c = search needs
+
 returns-2 : tie.Need-returns-2 Inv-loop μ-loop
-returns-2 c = c .before .loop .inv .0
+returns-2 c =
+    let l = c .before .loop in
+    ran-stops false (l .inv .0)
 
 pub run-spec : {M : Type 1} → statement M
-run-spec = tie.close (tie.spec Inv-loop μ-loop loop-holds read-once-requires same-length same-length-2 same-length-3 same-length-4 returns sub-turns loop-less loop-again same-length-5 same-length-6 same-length-7 same-length-8 returns-2)
+run-spec =
+    tie.close
+    (tie.spec
+    Inv-loop
+    μ-loop
+    loop-holds
+    read-once-requires
+    sub-left
+    sub-t21
+    same-length
+    same-length-2
+    same-length-3
+    same-length-4
+    same-length-5
+    returns
+    loop-less
+    loop-again
+    sub-t22
+    same-length-6
+    same-length-7
+    same-length-8
+    same-length-9
+    same-length-10
+    returns-2)

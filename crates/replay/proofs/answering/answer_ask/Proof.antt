@@ -1,6 +1,6 @@
 -- `replay::answering::answer_ask` meets its contract.
 -- Assumes nothing.
-use mathlib.Core.Path.{_≡_, refl, sym, ap, _∙_}
+use mathlib.Core.Path.{sym}
 use native.Mathlib.Omega.{arith}
 use mir.Syntax.{w32}
 use lib.Seq.{length-take-le}

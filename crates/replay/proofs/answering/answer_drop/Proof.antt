@@ -1,9 +1,6 @@
 -- `replay::answering::answer_drop` meets its contract.
 -- Assumes nothing.
-use mathlib.Core.Path.{_≡_, refl, sym, ap, _∙_}
-use native.Mathlib.Omega.{arith}
 use mir.Syntax.{w32}
-use lib.IntN.{ℤ}
 use Rattle.ints.proofs.Machine.{held}
 use Rattle.engine.specs.Index.{dropOut}
 use Rattle.engine.specs.Gives.{Gives}

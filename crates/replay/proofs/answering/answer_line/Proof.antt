@@ -1,6 +1,6 @@
 -- `replay::answering::answer_line` meets its contract.
 -- Assumes nothing.
-use mathlib.Core.Path.{_≡_, refl, sym, subst}
+use mathlib.Core.Path.{sym, subst}
 use native.Mathlib.Omega.{arith}
 use mathlib.Core.List.{_++_}
 use Prim.Native.Nat.{_+_, _-_, _<_}

@@ -1,14 +1,11 @@
 -- `replay::answering::answer_open` meets its contract.
 -- Assumes nothing.
-use mathlib.Core.Path.{_≡_, refl, sym, ap, _∙_}
-use native.Mathlib.Omega.{arith}
 use mir.Syntax.{w32}
-use lib.IntN.{ℤ}
 use Rattle.ints.proofs.Machine.{held}
 use Rattle.engine.specs.Index.{openOut}
 use Rattle.engine.specs.Gives.{Gives}
 use Rattle.engine.proofs.SmallAnswers.{open-small}
-use Rattle.replay.proofs.AnswerLaws.{point-sound, room-for, answers-open}
+use Rattle.replay.proofs.AnswerLaws.{room-for, answers-open}
 use borrow.Author.Needs.{needs}
 use Rattle.replay.proofs.answering.answer_open.Statement.{statement}
 use Rattle.replay.proofs.answering.answer_open.Tie as tie

@@ -1,10 +1,5 @@
 -- `replay::answering::answer_update` meets its contract.
 -- Assumes nothing.
-use mathlib.Core.Path.{_≡_, refl, sym, ap, _∙_}
-use native.Mathlib.Omega.{arith}
-use mir.Syntax.{w32}
-use lib.IntN.{ℤ}
-use Rattle.ints.proofs.Machine.{held}
 use Rattle.engine.specs.Index.{reportOut}
 use Rattle.engine.specs.Gives.{Gives}
 use Rattle.engine.proofs.SmallAnswers.{report-small}

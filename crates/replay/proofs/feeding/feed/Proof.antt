@@ -4,7 +4,6 @@ use mathlib.Core.Path.{_≡_, refl, _∙_}
 use Prim.Native.Nat.{_≤_, _-_}
 use native.Mathlib.Omega.{arith}
 use lib.ListN.{length}
-use Rattle.replay.specs.Session.{answerBytes}
 use Rattle.replay.proofs.FeedLaws.{Going, going-begins, can-take, going-on, going-ends, some-taken}
 use borrow.Author.Needs.{needs}
 use Rattle.replay.proofs.feeding.feed.Statement.{statement}
