@@ -27,14 +27,15 @@ use Rattle.engine.specs.Index.{settled, openOut}
 use Rattle.engine.specs.Gives.{Gives}
 use Rattle.history.specs.Index as H
 use Rattle.history.specs.Points.{Point}
-use Rattle.replay.specs.Replay.{listLength}
-use Rattle.replay.specs.Session.{Session, begun, sessionAfter, wordsIn, lineBytes, answerBytes, Stands, CanFeed, Feeds, Ends, Ready, Begins}
-use Rattle.replay.specs.Session.{TakesChunk, TakesRead, isEnd, AnswersRead, Runs, Replays}
-use Rattle.replay.specs.declared.feeding.Fed.{Fed}
+use Rattle.session.specs.Replay.{listLength}
+use Rattle.session.specs.Session.{Session, begun, sessionAfter, wordsIn, lineBytes, answerBytes, Stands, CanFeed, Feeds, Ends}
+use Rattle.replay.specs.Program.{Ready, Begins}
+use Rattle.replay.specs.Program.{TakesChunk, TakesRead, isEnd, AnswersRead, Runs, Replays}
+use Rattle.session.specs.declared.feeding.Fed.{Fed}
 use Rattle.replay.specs.declared.Turn.{Turn}
 use Rattle.replay.specs.declared.Stop.{Stop}
-use Rattle.replay.proofs.FeedLaws.{alone}
-use Rattle.replay.proofs.Claims.{chunks-are-one-input}
+use Rattle.session.proofs.FeedLaws.{alone}
+use Rattle.session.proofs.Claims.{chunks-are-one-input}
 
 -- ---- the start
 

@@ -1,5 +1,1 @@
-pub mod FeedLaws
-pub mod Claims
-pub mod AnswerLaws
 pub mod ChunkLaws
-pub mod Sightings

@@ -7,15 +7,14 @@ ghost use lib.ListN.{length};
 ghost use Rattle.libc.specs.Io.{Moved};
 ghost use Rattle.rows.specs.Table.{tableWords};
 ghost use Rattle.records.specs.Records.{storeWords};
-ghost use Rattle.replay.specs.Replay.{listLength};
-ghost use Rattle.replay.specs.Session.{lineBytes, answerBytes, Ready, Begins, TakesChunk, TakesRead, AnswersRead, Runs, Replays};
+ghost use Rattle.session.specs.Replay.{listLength};
+ghost use Rattle.session.specs.Session.{lineBytes, answerBytes};
+ghost use Rattle.replay.specs.Program.{Ready, Begins, TakesChunk, TakesRead, AnswersRead, Runs, Replays};
 
-mod answering;
-mod feeding;
 mod streams;
 
-use feeding::feed;
-use feeding::finish;
+use session::feeding::feed;
+use session::feeding::finish;
 use streams::read_chunk;
 use streams::write_out;
 

@@ -5,7 +5,7 @@ use Prim.Native.Nat.{_+_, _-_}
 use native.Mathlib.Omega.{arith}
 use lib.ListN.{length, drop, length-drop}
 use lib.Seq.{length-take-le, take-all}
-use Rattle.replay.specs.Session.{Feeds}
+use Rattle.session.specs.Session.{Feeds}
 use Rattle.replay.proofs.ChunkLaws.{can-feed, Through, through-begins, through-more, through-stops, through-ends}
 use borrow.Author.Needs.{needs}
 use Rattle.replay.proofs.answer_chunk.Statement.{statement}

@@ -3,7 +3,7 @@
 use mathlib.Core.Path.{sym}
 use native.Mathlib.Omega.{arith}
 use lib.Seq.{length-take-le}
-use Rattle.replay.specs.Session.{begun, Stands}
+use Rattle.session.specs.Session.{begun, Stands}
 use Rattle.replay.proofs.ChunkLaws.{begun-stands, begun-ready, replays-stopped, replays-ended}
 use borrow.Author.Needs.{needs}
 use borrow.Author.Needs.{needs}

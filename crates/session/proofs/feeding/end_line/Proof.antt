@@ -1,0 +1,55 @@
+-- `replay::feeding::end_line` meets its contract.
+-- Assumes nothing.
+use mathlib.Core.Path.{refl, sym}
+use native.Mathlib.Omega.{arith}
+use Prim.Native.Nat.{ℕ, _-_}
+use lib.ListN.{length}
+use lib.Seq.{length-take-le}
+use borrow.Rule.Slice.PartMut.{same-len-mid}
+use Rattle.session.proofs.FeedLaws.{answer-fits, line-ended}
+use borrow.Author.Needs.{needs}
+use Rattle.session.proofs.feeding.end_line.Statement.{statement}
+use Rattle.session.proofs.feeding.end_line.Tie as tie
+
+slice-aggregate-answer-line : tie.Need-slice-aggregate-answer-line
+slice-aggregate-answer-line c = sym (length-take-le _ _ (omega arith))
+
+sub-answer-line : tie.Need-sub-answer-line
+sub-answer-line c = search needs
+
+part-answer-line-start : tie.Need-part-answer-line-start
+part-answer-line-start c = search needs
+
+part-answer-line-end : tie.Need-part-answer-line-end
+part-answer-line-end c = search needs
+
+answer-line-requires : tie.Need-answer-line-requires
+answer-line-requires c κs = search needs
+
+add-result : tie.Need-add-result
+add-result c =
+    let k = c .before .before .before .before .before .before in
+    let a = k .before .before .before .before .before .before .before .before .before in
+    let f = answer-fits (a .args .line .now) (a .args .at) (a .args .store .now) (a .args .table .now) (k .answer-line .last .0) (k .answer-line .last .1 .0) (a .args .out .now) (k .answer-line .last .1 .1 .1 .1 .0) (k .answer-line .result) (omega (arith, a .pre .room)) (a .pre .at-point) (k .answer-line .ensures) (k .answer-line .kept .1 .1 .1 .1 .0) in
+    search needs
+
+same-length : tie.Need-same-length
+same-length c = search needs
+
+same-length-2 : tie.Need-same-length-2
+same-length-2 c = search needs
+
+same-length-3 : tie.Need-same-length-3
+same-length-3 c = search needs
+
+same-length-4 : tie.Need-same-length-4
+same-length-4 c = search needs
+
+returns : tie.Need-returns
+returns c =
+    let k = c .before .before .before .before .before .before in
+    let a = k .before .before .before .before .before .before .before .before .before in
+    line-ended (a .args .line .now) (a .args .at) (a .args .store .now) (a .args .table .now) (k .answer-line .last .0) (k .answer-line .last .1 .0) (a .args .out .now) (k .answer-line .last .1 .1 .1 .1 .0) (k .answer-line .result) (omega (arith, a .pre .room)) (a .pre .at-point) (k .answer-line .ensures) (k .answer-line .kept .1 .1 .1 .1 .0) _ refl (same-len-mid {X = ℕ} (a .args .at .filled) (length (a .args .out .now) - a .args .at .filled) (a .args .out .now) (k .answer-line .last .1 .1 .1 .1 .0) (k .answer-line .kept .1 .1 .1 .1 .0))
+
+pub end-line-spec : {M : Type 1} → statement M
+end-line-spec = tie.close (tie.spec slice-aggregate-answer-line sub-answer-line part-answer-line-start part-answer-line-end answer-line-requires add-result same-length same-length-2 same-length-3 same-length-4 returns)

@@ -1,0 +1,37 @@
+-- `replay::feeding::finish` meets its contract.
+-- Assumes nothing.
+use native.Mathlib.Omega.{arith}
+use Rattle.session.proofs.FeedLaws.{ends-empty, ends-line}
+use borrow.Author.Needs.{needs}
+use Rattle.session.proofs.feeding.finish.Statement.{statement}
+use Rattle.session.proofs.feeding.finish.Tie as tie
+
+returns : tie.Need-returns
+returns c = let a = c .before .before .before .before in ends-empty (a .args .store .now) (a .args .table .now) (a .args .line .now) (a .args .out .now) (a .args .held) (c .if1 .taken)
+
+end-line-requires : tie.Need-end-line-requires
+end-line-requires c κs = search needs
+
+same-length : tie.Need-same-length
+same-length c = search needs
+
+same-length-2 : tie.Need-same-length-2
+same-length-2 c = search needs
+
+same-length-3 : tie.Need-same-length-3
+same-length-3 c = search needs
+
+same-length-4 : tie.Need-same-length-4
+same-length-4 c = search needs
+
+same-length-5 : tie.Need-same-length-5
+same-length-5 c = search needs
+
+returns-2 : tie.Need-returns-2
+returns-2 c =
+    let k = c .before .before .before .before .before .before in
+    let a = c .before .before .before .before .before .before .before .before .before .before .before .before .before .before .before .before in
+    ends-line (a .args .store .now) (a .args .table .now) (a .args .line .now) (a .args .out .now) (a .args .held) (omega arith) (k .end-line .last .0) (k .end-line .last .1 .0) (k .end-line .last .1 .1 .1 .1 .0) (k .end-line .result) (k .end-line .ensures)
+
+pub finish-spec : {M : Type 1} → statement M
+finish-spec = tie.close (tie.spec returns end-line-requires same-length same-length-2 same-length-3 same-length-4 same-length-5 returns-2)
