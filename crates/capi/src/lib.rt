@@ -44,14 +44,7 @@ fn reply_of(answer: Answer) -> Reply
             useful: useful,
             rounds: rounds,
         },
-        Answer::WrongLength => plain(1, 0),
-        Answer::Unsound => plain(2, 0),
-        Answer::BadTime => plain(3, 0),
-        Answer::BadNumber => plain(4, 0),
-        Answer::AlreadyHeld => plain(5, 0),
-        Answer::NotHeld => plain(6, 0),
-        Answer::Full => plain(7, 0),
-        Answer::ListTooShort(needed) => plain(8, needed),
+        Answer::Refused(why) => plain(why.number(), why.value()),
     }
 }
 

@@ -35,7 +35,8 @@ use Rattle.records.proofs.SoundLaws as Sound
 use Rattle.records.proofs.SoundLawsRanges.{between-from, last-phase}
 use Rattle.ledger.specs.Refusals.{check, firstToFail, isRectangle, badAskTime, badAsk}
 use Rattle.ledger.specs.declared.Answer.{Answer}
-use Rattle.ledger.specs.declared.Answer.the-variants.{Listed, WrongLength, Unsound, BadTime, BadNumber, ListTooShort}
+use Rattle.ledger.specs.declared.Answer.the-variants.{Listed, Refused}
+use Rattle.ledger.specs.declared.Refusal.the-variants.{WrongLength, Unsound, BadTime, BadNumber, ListTooShort}
 use Rattle.engine.specs.Gives.{CanAsk, GivesList, noIds}
 use Rattle.ledger.specs.Machine.{summed}
 use Rattle.engine.specs.Index.{wrongLength, unsound, lentChecks, listedOf, foundIn, phasesNow, idsNeeded, idsFound, cellsCounted, usefulCounted, roundsCounted, askAnswer, askOut}
@@ -292,7 +293,7 @@ module _ (s t : List ℤ) (method asked : ℤ) (q : Rect) (can : CanAsk s t meth
       (passes (badAskTime (nowOf s) asked) BadTime _ accepted r (can .good-time)
       (passes (badAsk method q) BadNumber _ accepted r (can .good-numbers) h)))
 
-  short-answer : length list < c .read .listed → ListTooShort (c .read .listed) ≡ askAnswer s t method asked q (length list)
+  short-answer : length list < c .read .listed → Refused (ListTooShort (c .read .listed)) ≡ askAnswer s t method asked q (length list)
   unfolding askAnswer
   short-answer h =
       rw needed
@@ -306,7 +307,7 @@ module _ (s t : List ℤ) (method asked : ℤ) (q : Rect) (can : CanAsk s t meth
       (asked-answer _ _
       (passes (ltb (length list) (idsNeeded s t (up method) asked q)) (ListTooShort (idsNeeded s t (up method) asked q)) [] _ _ (le-ltb (length list) (idsNeeded s t (up method) asked q) (omega (arith, needed))) (accepts _ _ refl)))
 
-  pub short : length list < c .read .listed → GivesList (askOut s t method asked q list) (ListTooShort (c .read .listed)) list
+  pub short : length list < c .read .listed → GivesList (askOut s t method asked q list) (Refused (ListTooShort (c .read .listed))) list
   unfolding askOut
   short h = let e = short-answer h in gives-list _ _ _ e (rw (← e) refl)
 

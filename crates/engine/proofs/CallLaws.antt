@@ -33,7 +33,8 @@ use Rattle.records.proofs.SoundLaws as Sound
 use Rattle.ledger.specs.Answers.{isAccepted}
 use Rattle.ledger.specs.Refusals.{Check, check, unless, firstToFail, badStepTime, badAskTime, badReport, badAsk}
 use Rattle.ledger.specs.declared.Answer.{Answer}
-use Rattle.ledger.specs.declared.Answer.the-variants.{Accepted, WrongLength, Unsound, BadTime, BadNumber, AlreadyHeld, NotHeld, Full}
+use Rattle.ledger.specs.declared.Answer.the-variants.{Accepted}
+use Rattle.ledger.specs.declared.Refusal.the-variants.{WrongLength, Unsound, BadTime, BadNumber, AlreadyHeld, NotHeld, Full}
 use Rattle.engine.specs.Index.{settled, wrongLength, unsound, lentChecks, recordsAfterStep, tableAfterStep, widenedBy, askAnswer, askOut}
 use Rattle.engine.specs.Gives.{Gives, GivesList, CanStep, Stepped, CanPlace, Placed, TakenOut, CanAsk}
 use Rattle.engine.proofs.CheckLaws.{accepted-passed, lent-refused}
@@ -68,7 +69,7 @@ right-lengths s t h =
 
 module _ (s t : List ℤ) (sound : isSound s t ≡ true) (time : ℤ) (more : List Check) (accepted : Answer) (h : isAccepted (firstToFail (check (badStepTime (nowOf s) time) BadTime ∷ more) accepted) ≡ true) where
   passed : (badStepTime (nowOf s) time ≡ false) × (isAccepted (firstToFail more accepted) ≡ true)
-  passed = accepted-passed (badStepTime (nowOf s) time) BadTime more accepted refl h
+  passed = accepted-passed (badStepTime (nowOf s) time) BadTime more accepted h
 
   pub can-step : CanStep s t time
   can-step =
@@ -148,8 +149,8 @@ ask-refused s t method asked q list r e n =
 
 pub ask-passed : (s t : List ℤ) → isSound s t ≡ true → (method asked : ℤ) (q : Rect) (r : Answer) → r ≡ firstToFail (check (badAskTime (nowOf s) asked) BadTime ∷ check (badAsk method q) BadNumber ∷ []) (Accepted 0) → isAccepted r ≡ true → CanAsk s t method asked q
 ask-passed s t sound method asked q r e n =
-    let a = accepted-passed (badAskTime (nowOf s) asked) BadTime _ (Accepted 0) refl (sym (ap isAccepted e) ∙ n) in
-    let b = accepted-passed (badAsk method q) BadNumber [] (Accepted 0) refl (a .1) in
+    let a = accepted-passed (badAskTime (nowOf s) asked) BadTime _ (Accepted 0) (sym (ap isAccepted e) ∙ n) in
+    let b = accepted-passed (badAsk method q) BadNumber [] (Accepted 0) (a .1) in
     record { sound = sound; good-time = a .0; good-numbers = b .0 }
 
 -- ---- placing after a step
@@ -196,13 +197,13 @@ taken-out s t s′ id h e = taken-as s t id s′ t h (record { store-is = e; tab
 
 pub add-passed : (r : Report) (rs : List Record) (accepted : Answer) → isAccepted (firstToFail (check (badReport r) BadNumber ∷ check (hasId (r .id) rs) AlreadyHeld ∷ check (leb capacity (length rs)) Full ∷ []) accepted) ≡ true → (inRange r ≡ true) × (length rs < capacity)
 add-passed r rs accepted h =
-    let a = accepted-passed (badReport r) BadNumber _ accepted refl h in
-    let b = accepted-passed (hasId (r .id) rs) AlreadyHeld _ accepted refl (a .1) in
-    let c = accepted-passed (leb capacity (length rs)) Full [] accepted refl (b .1) in
+    let a = accepted-passed (badReport r) BadNumber _ accepted h in
+    let b = accepted-passed (hasId (r .id) rs) AlreadyHeld _ accepted (a .1) in
+    let c = accepted-passed (leb capacity (length rs)) Full [] accepted (b .1) in
     (not-false _ (a .0), leb-false capacity (length rs) (c .0))
 
 pub report-passed : (r : Report) (rs : List Record) (accepted : Answer) → isAccepted (firstToFail (check (badReport r) BadNumber ∷ check (not (hasId (r .id) rs)) NotHeld ∷ []) accepted) ≡ true → (inRange r ≡ true) × (hasId (r .id) rs ≡ true)
 report-passed r rs accepted h =
-    let a = accepted-passed (badReport r) BadNumber _ accepted refl h in
-    let b = accepted-passed (not (hasId (r .id) rs)) NotHeld [] accepted refl (a .1) in
+    let a = accepted-passed (badReport r) BadNumber _ accepted h in
+    let b = accepted-passed (not (hasId (r .id) rs)) NotHeld [] accepted (a .1) in
     (not-false _ (a .0), not-false _ (b .0))

@@ -23,14 +23,16 @@ use Rattle.rows.specs.Table.{tableWords}
 use Rattle.ledger.specs.Answers.{isAccepted}
 use Rattle.ledger.specs.Refusals.{Check, check, unless, firstToFail}
 use Rattle.ledger.specs.declared.Answer.{Answer}
-use Rattle.ledger.specs.declared.Answer.the-variants.{Accepted, WrongLength, Unsound}
+use Rattle.ledger.specs.declared.Answer.the-variants.{Accepted, Refused}
+use Rattle.ledger.specs.declared.Refusal.{Refusal}
+use Rattle.ledger.specs.declared.Refusal.the-variants.{WrongLength, Unsound}
 use Rattle.engine.specs.Index.{wrongLength, unsound, lentChecks, recordsAfterStep}
 
-pub fails : (b : Bool) (a : Answer) (cs : List Check) (accepted : Answer) → b ≡ true → a ≡ firstToFail (check b a ∷ cs) accepted
+pub fails : (b : Bool) (r : Refusal) (cs : List Check) (accepted : Answer) → b ≡ true → Refused r ≡ firstToFail (check b r ∷ cs) accepted
 unfolding firstToFail
-fails b a cs accepted e = rw e refl
+fails b r cs accepted e = rw e refl
 
-pub passes : (b : Bool) (a : Answer) (cs : List Check) (accepted r : Answer) → b ≡ false → r ≡ firstToFail cs accepted → r ≡ firstToFail (check b a ∷ cs) accepted
+pub passes : (b : Bool) (a : Refusal) (cs : List Check) (accepted r : Answer) → b ≡ false → r ≡ firstToFail cs accepted → r ≡ firstToFail (check b a ∷ cs) accepted
 unfolding firstToFail
 passes b a cs accepted r e h = rw e h
 
@@ -43,10 +45,10 @@ store-words-of s h = ap length (h .words) ∙ store-length (nowOf s) (recordsOf 
 
 -- ---- what an accepted chain of checks says of each
 
-pub accepted-passed : (b : Bool) (a : Answer) (cs : List Check) (accepted : Answer) → isAccepted a ≡ false → isAccepted (firstToFail (check b a ∷ cs) accepted) ≡ true → (b ≡ false) × (isAccepted (firstToFail cs accepted) ≡ true)
+pub accepted-passed : (b : Bool) (a : Refusal) (cs : List Check) (accepted : Answer) → isAccepted (firstToFail (check b a ∷ cs) accepted) ≡ true → (b ≡ false) × (isAccepted (firstToFail cs accepted) ≡ true)
 unfolding firstToFail
-accepted-passed true a cs accepted n h = absurd (true-false (sym h ∙ n))
-accepted-passed false a cs accepted n h = (refl, h)
+accepted-passed true a cs accepted h = absurd (true-false (sym h))
+accepted-passed false a cs accepted h = (refl, h)
 
 -- ---- the first two checks, of the lent words
 
@@ -62,8 +64,8 @@ module _ (s t : List ℤ) (r : Answer) (e : r ≡ firstToFail (lentChecks s t []
 
   pub lent-sound : isAccepted r ≡ true → isSound s t ≡ true
   lent-sound n =
-      let x = accepted-passed (wrongLength s t) WrongLength (check (unsound s t) Unsound ∷ []) (Accepted 0) refl (sym (ap isAccepted e) ∙ n) in
-      not-false (isSound s t) (accepted-passed (unsound s t) Unsound [] (Accepted 0) refl (x .1) .0)
+      let x = accepted-passed (wrongLength s t) WrongLength (check (unsound s t) Unsound ∷ []) (Accepted 0) (sym (ap isAccepted e) ∙ n) in
+      not-false (isSound s t) (accepted-passed (unsound s t) Unsound [] (Accepted 0) (x .1) .0)
 
 -- sound words pass both
 pub sound-passed : (s t : List ℤ) → isSound s t ≡ true → (more : List Check) (accepted a : Answer) → a ≡ firstToFail more accepted → a ≡ firstToFail (lentChecks s t more) accepted

@@ -21,11 +21,12 @@ use Rattle.reading.specs.Reading.{cellsIn, usefulIn}
 use Rattle.records.specs.Soundness.{isSound}
 use Rattle.records.specs.declared.Record.{Record}
 use Rattle.store.proofs.KeepLaws.{stepped-length}
-use Rattle.ledger.specs.Answers.{valueOf, countsOf}
+use Rattle.ledger.specs.Answers.{refusalValue, valueOf, countsOf}
 use Rattle.ledger.specs.Refusals.{Check, check, unless, firstToFail, badTime, badAskTime, badAsk}
 use Rattle.ledger.specs.Machine.{summed}
 use Rattle.ledger.specs.declared.Answer.{Answer}
-use Rattle.ledger.specs.declared.Answer.the-variants.{Accepted, Listed, WrongLength, Unsound, BadTime, BadNumber, AlreadyHeld, NotHeld, Full, ListTooShort}
+use Rattle.ledger.specs.declared.Answer.the-variants.{Accepted, Listed, Refused}
+use Rattle.ledger.specs.declared.Refusal.the-variants.{WrongLength, BadTime, BadNumber, ListTooShort}
 use Rattle.engine.specs.Index.{wrongLength, lentChecks, clockChecks, addChecks, reportChecks, dropChecks, settled, openOut, clockOut, addOut, reportOut, dropOut, askOut, askAnswer, recordsAfterStep, choiceOf, marksIn, listedOf, phasesNow, idsNeeded, cellsCounted, usefulCounted, roundsCounted}
 use Rattle.engine.proofs.AskingLaws.{few-listed, few-useful, few-rounds}
 use Rattle.engine.proofs.CheckLaws.{sound-is-store}
@@ -51,37 +52,20 @@ accepted n h = zeros (Accepted n) h (omega arith) (omega arith) (omega arith)
 
 AllSmall : List Check → Type 0
 AllSmall [] = Unit {0}
-AllSmall (c ∷ cs) = SmallAnswer (c .answer) × AllSmall cs
+AllSmall (c ∷ cs) = (refusalValue (c .refusal) ≤ most) × AllSmall cs
 
 first-small : (cs : List Check) (a : Answer) → AllSmall cs → SmallAnswer a → SmallAnswer (firstToFail cs a)
 unfolding firstToFail AllSmall
 first-small [] a all h = h
 first-small (c ∷ cs) a all h = go (c .fails) (first-small cs a (all .1) h)
   where
-    go : (b : Bool) → SmallAnswer (firstToFail cs a) → SmallAnswer (unless b (c .answer) (firstToFail cs a))
-    go true k = all .0
+    go : (b : Bool) → SmallAnswer (firstToFail cs a) → SmallAnswer (unless b (c .refusal) (firstToFail cs a))
+    go true k = zeros (Refused (c .refusal)) (all .0) (omega arith) (omega arith) (omega arith)
     go false k = k
 
-wrong-length : SmallAnswer WrongLength
-wrong-length = zeros WrongLength (omega arith) (omega arith) (omega arith) (omega arith)
-
-not-sound : SmallAnswer Unsound
-not-sound = zeros Unsound (omega arith) (omega arith) (omega arith) (omega arith)
-
-bad-time : SmallAnswer BadTime
-bad-time = zeros BadTime (omega arith) (omega arith) (omega arith) (omega arith)
-
-bad-number : SmallAnswer BadNumber
-bad-number = zeros BadNumber (omega arith) (omega arith) (omega arith) (omega arith)
-
-already-held : SmallAnswer AlreadyHeld
-already-held = zeros AlreadyHeld (omega arith) (omega arith) (omega arith) (omega arith)
-
-not-held : SmallAnswer NotHeld
-not-held = zeros NotHeld (omega arith) (omega arith) (omega arith) (omega arith)
-
-full : SmallAnswer Full
-full = zeros Full (omega arith) (omega arith) (omega arith) (omega arith)
+-- the value of each refusal but 8
+none : 0 ≤ most
+none = omega arith
 
 -- ---- sums over the live phases
 
@@ -110,7 +94,7 @@ few-removed id (r ∷ rs) = go (eqZ (r .report .id) id) (few-removed id rs)
 pub open-small : (s t : List ℤ) (time : ℤ) → SmallAnswer (openOut s t time .answer)
 unfolding openOut settled AllSmall
 open-small s t time =
-    first-small (check (wrongLength s t) WrongLength ∷ check (badTime time) BadTime ∷ []) (Accepted 0) (wrong-length, (bad-time, tt)) (accepted 0 (omega arith))
+    first-small (check (wrongLength s t) WrongLength ∷ check (badTime time) BadTime ∷ []) (Accepted 0) (none, (none, tt)) (accepted 0 (omega arith))
 
 module _ (s t : List ℤ) (sound : isSound s t ≡ true) where
   few : length (recordsOf s) ≤ capacity
@@ -119,17 +103,17 @@ module _ (s t : List ℤ) (sound : isSound s t ≡ true) where
   pub clock-small : (time : ℤ) → SmallAnswer (clockOut s t time .answer)
   unfolding clockOut settled AllSmall
   clock-small time =
-      first-small (lentChecks s t (clockChecks s time)) (Accepted (length (recordsOf s))) (wrong-length, (not-sound, (bad-time, tt))) (accepted (length (recordsOf s)) (let f = few in omega arith))
+      first-small (lentChecks s t (clockChecks s time)) (Accepted (length (recordsOf s))) (none, (none, (none, tt))) (accepted (length (recordsOf s)) (let f = few in omega arith))
 
   pub add-small : (r : Report) → SmallAnswer (addOut s t r .answer)
   unfolding addOut settled AllSmall
   add-small r =
-      first-small (lentChecks s t (addChecks s r)) (Accepted (suc (length (recordsOf s)))) (wrong-length, (not-sound, (bad-time, (bad-number, (already-held, (full, tt)))))) (accepted (suc (length (recordsOf s))) (let f = few in omega arith))
+      first-small (lentChecks s t (addChecks s r)) (Accepted (suc (length (recordsOf s)))) (none, (none, (none, (none, (none, (none, tt)))))) (accepted (suc (length (recordsOf s))) (let f = few in omega arith))
 
   pub report-small : (r : Report) → SmallAnswer (reportOut s t r .answer)
   unfolding reportOut settled AllSmall
   report-small r =
-      first-small (lentChecks s t (reportChecks s r)) (Accepted (length (recordsOf s))) (wrong-length, (not-sound, (bad-time, (bad-number, (not-held, tt))))) (accepted (length (recordsOf s)) (let f = few in omega arith))
+      first-small (lentChecks s t (reportChecks s r)) (Accepted (length (recordsOf s))) (none, (none, (none, (none, (none, tt))))) (accepted (length (recordsOf s)) (let f = few in omega arith))
 
   few-left : (id time : ℤ) → length (removed id (recordsAfterStep s time)) ≤ capacity
   unfolding recordsAfterStep
@@ -142,7 +126,7 @@ module _ (s t : List ℤ) (sound : isSound s t ≡ true) where
   unfolding dropOut settled AllSmall
   drop-small id time =
       let n = length (removed id (recordsAfterStep s time)) in
-      first-small (lentChecks s t (dropChecks s id time)) (Accepted n) (wrong-length, (not-sound, (bad-time, (bad-number, (not-held, tt))))) (accepted n (let f = few-left id time in omega arith))
+      first-small (lentChecks s t (dropChecks s id time)) (Accepted n) (none, (none, (none, (none, (none, tt))))) (accepted n (let f = few-left id time in omega arith))
 
   module _ (method : ℕ) (asked : ℤ) (q : Rect) where
     needed : idsNeeded s t method asked q ≤ most
@@ -185,5 +169,5 @@ module _ (s t : List ℤ) (sound : isSound s t ≡ true) where
       ∷ check (ltb (length list) n) (ListTooShort n)
       ∷ []))
       (Listed n (cellsCounted s t m asked q) (usefulCounted s t m asked q) (roundsCounted s t m asked q))
-      (wrong-length, (not-sound, (bad-time, (bad-number, (zeros (ListTooShort n) (needed m asked q) (omega arith) (omega arith) (omega arith), tt)))))
+      (none, (none, (none, (none, (needed m asked q, tt)))))
       (record { value = needed m asked q; cells = read m asked q; useful = useful-ones m asked q; rounds = rounds-taken m asked q })

@@ -16,6 +16,7 @@ ghost use Rattle.engine.specs.Gives.{GivesList, CanAsk, CanAskIn, noIds}
 ghost use Rattle.engine.specs.Counted.{CanChoose, CanRead, ReadIn, SmallCounts, CountedTogether, CountedIn, CountedOver};
 use grid::Rect;
 use ledger::Answer;
+use ledger::Refusal;
 use reading::Reading;
 
 // What asking in a phase, or in several, gives back: what was read there, and the rounds of choosing. How many cells were read is only in the reading.
@@ -172,7 +173,7 @@ fn ask_with(
     let counts = ask_in_all(store, table, method, asked, q, found);
     let needed = counts.ids_needed();
     if list.len() < needed {
-        return Answer::ListTooShort(needed);
+        return Answer::Refused(Refusal::ListTooShort(needed));
     }
     reading::rising(found, list);
     counts.answer()

@@ -14,12 +14,14 @@ ghost use Rattle.records.specs.Soundness.{IsStore};
 ghost use Rattle.store.specs.Changes.{removed};
 ghost use Rattle.ledger.specs.Answers.{isAccepted};
 ghost use Rattle.ledger.specs.Refusals.{check, firstToFail, badStepTime, badAskTime, badAsk, isRectangle};
-ghost use Rattle.ledger.specs.declared.Answer.the-variants.{Accepted, BadTime, BadNumber};
+ghost use Rattle.ledger.specs.declared.Answer.the-variants.{Accepted};
+ghost use Rattle.ledger.specs.declared.Refusal.the-variants.{BadTime, BadNumber};
 ghost use Rattle.engine.specs.Index.{wrongLength, lentChecks, clockChecks, addChecks, reportChecks, dropChecks, recordsAfterStep, openAnswer};
 use grid::Range;
 use grid::Rect;
 use grid::Report;
 use ledger::Answer;
+use ledger::Refusal;
 
 // The last time, in seconds.
 const LAST_TIME: i32 = 999999999;
@@ -41,14 +43,7 @@ pub fn is_accepted(a: Answer) -> bool
     match a {
         Answer::Accepted(_) => true,
         Answer::Listed(_, _, _, _) => true,
-        Answer::WrongLength => false,
-        Answer::Unsound => false,
-        Answer::BadTime => false,
-        Answer::BadNumber => false,
-        Answer::AlreadyHeld => false,
-        Answer::NotHeld => false,
-        Answer::Full => false,
-        Answer::ListTooShort(_) => false,
+        Answer::Refused(_) => false,
     }
 }
 
@@ -162,10 +157,10 @@ pub fn lent_answer(store: &[i32], table: &[i16]) -> Answer
     ensures { λ r. ⌜ r ≡ firstToFail (lentChecks (now (store .entry)) (now (table .entry)) []) (Accepted 0) ⌝ }
 {
     if wrong_length(store, table) {
-        return Answer::WrongLength;
+        return Answer::Refused(Refusal::WrongLength);
     }
     if !records::soundness::is_sound(store, table) {
-        return Answer::Unsound;
+        return Answer::Refused(Refusal::Unsound);
     }
     Answer::Accepted(0)
 }
@@ -174,10 +169,10 @@ pub fn open_answer(store: &[i32], table: &[i16], t: i32) -> Answer
     ensures { λ r. ⌜ r ≡ openAnswer (now (store .entry)) (now (table .entry)) t ⌝ }
 {
     if wrong_length(store, table) {
-        return Answer::WrongLength;
+        return Answer::Refused(Refusal::WrongLength);
     }
     if !is_time(t) {
-        return Answer::BadTime;
+        return Answer::Refused(Refusal::BadTime);
     }
     Answer::Accepted(0)
 }
@@ -187,7 +182,7 @@ pub fn clock_answer(store: &[i32], t: i32) -> Answer
     ensures { λ r. ⌜ r ≡ firstToFail (clockChecks (now (store .entry)) t) (Accepted (length (recordsOf (now (store .entry))))) ⌝ }
 {
     if bad_step_time(store, t) {
-        return Answer::BadTime;
+        return Answer::Refused(Refusal::BadTime);
     }
     Answer::Accepted(records::held_of(store))
 }
@@ -197,19 +192,20 @@ pub fn add_answer(store: &[i32], r: Report) -> Answer
     ensures { λ a. ⌜ a ≡ firstToFail (addChecks (now (store .entry)) r) (Accepted (suc (length (recordsOf (now (store .entry)))))) ⌝ }
 {
     if bad_step_time(store, r.t) {
-        return Answer::BadTime;
+        return Answer::Refused(Refusal::BadTime);
     }
     if !records::soundness::in_range(r) {
-        return Answer::BadNumber;
+        return Answer::Refused(Refusal::BadNumber);
     }
     if store::changes::has_id(store, r.id) {
-        return Answer::AlreadyHeld;
+        return Answer::Refused(Refusal::AlreadyHeld);
     }
     let held = records::held_of(store);
     if records::CAPACITY <= held {
-        return Answer::Full;
+        return Answer::Refused(Refusal::Full);
     }
-    Answer::Accepted(held + 1)
+    let after = held + 1;
+    Answer::Accepted(after)
 }
 
 pub fn report_answer(store: &[i32], r: Report) -> Answer
@@ -217,13 +213,13 @@ pub fn report_answer(store: &[i32], r: Report) -> Answer
     ensures { λ a. ⌜ a ≡ firstToFail (reportChecks (now (store .entry)) r) (Accepted (length (recordsOf (now (store .entry))))) ⌝ }
 {
     if bad_step_time(store, r.t) {
-        return Answer::BadTime;
+        return Answer::Refused(Refusal::BadTime);
     }
     if !records::soundness::in_range(r) {
-        return Answer::BadNumber;
+        return Answer::Refused(Refusal::BadNumber);
     }
     if !store::changes::has_id(store, r.id) {
-        return Answer::NotHeld;
+        return Answer::Refused(Refusal::NotHeld);
     }
     Answer::Accepted(records::held_of(store))
 }
@@ -233,15 +229,16 @@ pub fn drop_answer(store: &[i32], id: i32, t: i32) -> Answer
     ensures { λ r. ⌜ r ≡ firstToFail (dropChecks (now (store .entry)) id t) (Accepted (length (removed id (recordsAfterStep (now (store .entry)) t)))) ⌝ }
 {
     if bad_step_time(store, t) {
-        return Answer::BadTime;
+        return Answer::Refused(Refusal::BadTime);
     }
     if !is_id(id) {
-        return Answer::BadNumber;
+        return Answer::Refused(Refusal::BadNumber);
     }
     if !store::changes::has_id(store, id) {
-        return Answer::NotHeld;
+        return Answer::Refused(Refusal::NotHeld);
     }
-    Answer::Accepted(records::held_of(store) - 1)
+    let after = records::held_of(store) - 1;
+    Answer::Accepted(after)
 }
 
 // The checks of an ask but the last, which wants the ids found.
@@ -250,10 +247,10 @@ pub fn ask_refusal(store: &[i32], method: i32, asked: i32, q: Rect) -> Answer
     ensures { λ r. ⌜ r ≡ firstToFail (check (badAskTime (nowOf (now (store .entry))) asked) BadTime ∷ check (badAsk method q) BadNumber ∷ []) (Accepted 0) ⌝ }
 {
     if bad_ask_time(store, asked) {
-        return Answer::BadTime;
+        return Answer::Refused(Refusal::BadTime);
     }
     if bad_ask(method, q) {
-        return Answer::BadNumber;
+        return Answer::Refused(Refusal::BadNumber);
     }
     Answer::Accepted(0)
 }

@@ -37,7 +37,8 @@ use Rattle.ledger.specs.Machine.{Ledger, Held, rowsIn, choiceIn, listedHeld, is
 use Rattle.ledger.specs.Calls as L
 use Rattle.ledger.specs.Calls.{Reply}
 use Rattle.ledger.specs.declared.Answer.{Answer}
-use Rattle.ledger.specs.declared.Answer.the-variants.{Listed, WrongLength, Unsound, BadTime, BadNumber, ListTooShort}
+use Rattle.ledger.specs.declared.Answer.the-variants.{Listed}
+use Rattle.ledger.specs.declared.Refusal.the-variants.{WrongLength, Unsound, BadTime, BadNumber, ListTooShort}
 use Rattle.ledger.proofs.OrderLaws.{put-comm}
 use Rattle.ledger.proofs.SumLaws.{summed-same}
 use Rattle.engine.specs.Index.{wrongLength, unsound, choiceOf, idsNeeded, idsFound, cellsCounted, usefulCounted, roundsCounted, askAnswer, askOut}

@@ -23,7 +23,8 @@ use Rattle.ledger.specs.Machine.{Ledger, rowsIn, choiceIn, listedHeld, isUseful
 use Rattle.ledger.specs.Calls as L
 use Rattle.ledger.specs.Calls.{Reply}
 use Rattle.ledger.specs.declared.Answer.{Answer}
-use Rattle.ledger.specs.declared.Answer.the-variants.{Listed, ListTooShort}
+use Rattle.ledger.specs.declared.Answer.the-variants.{Listed}
+use Rattle.ledger.specs.declared.Refusal.the-variants.{ListTooShort}
 use Rattle.ledger.proofs.SumLaws.{summed-same}
 use Rattle.engine.proofs.AskLaws.{FitAsk, fit-ask}
 use Rattle.history.specs.Index.{Words, ask, replyTo}

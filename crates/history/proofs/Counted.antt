@@ -14,7 +14,8 @@ use Rattle.ledger.specs.Machine.{Ledger, opened, isHeld, steppedHeld, stepped, 
 use Rattle.ledger.specs.Calls as L
 use Rattle.ledger.specs.Calls.{Call}
 use Rattle.ledger.specs.declared.Answer.{Answer}
-use Rattle.ledger.specs.declared.Answer.the-variants.{Accepted, BadTime, BadNumber, NotHeld}
+use Rattle.ledger.specs.declared.Answer.the-variants.{Accepted}
+use Rattle.ledger.specs.declared.Refusal.the-variants.{BadTime, BadNumber, NotHeld}
 use Rattle.ledger.proofs.MachineLaws.{stepped-length, stepped-held, without-length}
 use Rattle.history.specs.Claims.{countIf, acceptedOf, HeldAreAddsLessDrops}
 use Rattle.history.proofs.Steps.{passed, others}
@@ -23,9 +24,9 @@ use Rattle.history.proofs.Steps.{passed, others}
 was-held : (a b c : Bool) (n : Answer) → isAccepted (firstToFail (check a BadTime ∷ check b BadNumber ∷ check (not c) NotHeld ∷ []) n) ≡ true → c ≡ true
 was-held a b c n h =
     let held = check (not c) NotHeld ∷ [] in
-    let h₁ = others a BadTime (check b BadNumber ∷ held) n refl h in
-    let h₂ = others b BadNumber held n refl h₁ in
-    not-false c (passed (not c) NotHeld [] n refl h₂)
+    let h₁ = others a BadTime (check b BadNumber ∷ held) n h in
+    let h₂ = others b BadNumber held n h₁ in
+    not-false c (passed (not c) NotHeld [] n h₂)
 
 -- an accepted call changes the count of floats held by its count
 changes-count : (l : Ledger) (call : Call) → isAccepted (L.answerTo l call) ≡ true → length (L.changedBy l call .held) + countIf call 0 1 ≡ length (l .held) + countIf call 1 0

@@ -24,7 +24,8 @@ use Rattle.ledger.specs.Answers.{isAccepted}
 use Rattle.ledger.specs.Refusals.{check, firstToFail, badTime}
 use Rattle.ledger.specs.Machine.{Ledger, opened, rowsIn, speedsPlaced}
 use Rattle.ledger.specs.Calls as L
-use Rattle.ledger.specs.declared.Answer.the-variants.{Accepted, WrongLength, BadTime}
+use Rattle.ledger.specs.declared.Answer.the-variants.{Accepted}
+use Rattle.ledger.specs.declared.Refusal.the-variants.{WrongLength, BadTime}
 use Rattle.engine.specs.Index.{wrongLength, settled, openOut}
 use Rattle.history.specs.Index.{Words, LentCall, clock, add, report, drop, ask, fed, fedAll, replyTo, next, replies, after, openedWords}
 use Rattle.history.specs.Claims.{EveryHistoryIsTheLedgers}
@@ -83,15 +84,15 @@ module _ (s t : List ℤ) (time : ℤ) (accepted : isAccepted (openOut s t time 
 
   opened-sized : length t ≡ tableWords
   opened-sized =
-      let right = passed (wrongLength s t) WrongLength (check (badTime time) BadTime ∷ []) (Accepted 0) refl open-answer in
+      let right = passed (wrongLength s t) WrongLength (check (badTime time) BadTime ∷ []) (Accepted 0) open-answer in
       let both = not-false (eqb (length s) storeWords && eqb (length t) tableWords) right in
       eqb-true (length t) tableWords (and-right (eqb (length s) storeWords) _ both)
 
   opened-time : isTime time ≡ true
   opened-time =
       not-false (isTime time)
-      (passed (badTime time) BadTime [] (Accepted 0) refl
-      (others (wrongLength s t) WrongLength (check (badTime time) BadTime ∷ []) (Accepted 0) refl open-answer))
+      (passed (badTime time) BadTime [] (Accepted 0)
+      (others (wrongLength s t) WrongLength (check (badTime time) BadTime ∷ []) (Accepted 0) open-answer))
 
   pub opened-matches : Matches (opened time) (openedWords s t time)
   unfolding openOut settled recordsOfHeld

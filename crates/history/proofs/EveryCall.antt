@@ -22,7 +22,8 @@ use Rattle.records.proofs.SoundLaws.{sound-parts}
 use Rattle.ledger.specs.Answers.{Counts, valueOf, countsOf, isAccepted}
 use Rattle.ledger.specs.Refusals.{unless, firstToFail, inNumberOrder, badAskTime, badAsk}
 use Rattle.ledger.specs.declared.Answer.{Answer}
-use Rattle.ledger.specs.declared.Answer.the-variants.{Listed, WrongLength, Unsound, BadTime, BadNumber, ListTooShort}
+use Rattle.ledger.specs.declared.Answer.the-variants.{Listed}
+use Rattle.ledger.specs.declared.Refusal.the-variants.{WrongLength, Unsound, BadTime, BadNumber, ListTooShort}
 use Rattle.ledger.proofs.SumLaws.{summed-same, summed-none}
 use Rattle.ledger.proofs.Claims.{refusals-are-plain}
 use Rattle.engine.specs.Index.{wrongLength, unsound, choiceOf, idsNeeded, idsFound, cellsCounted, usefulCounted, roundsCounted, askChecks, askAnswer, askOut}

@@ -35,7 +35,7 @@ use Rattle.ledger.specs.Machine.{Ledger, Placement, livePlacements, newPlacemen
 use Rattle.ledger.specs.Calls as L
 use Rattle.ledger.specs.Calls.{Call}
 use Rattle.ledger.specs.declared.Answer.{Answer}
-use Rattle.ledger.specs.declared.Answer.the-variants.{WrongLength, Unsound, BadTime}
+use Rattle.ledger.specs.declared.Refusal.the-variants.{WrongLength, Unsound, BadTime}
 use Rattle.ledger.proofs.MachineLaws.{speeds-append, speeds-live}
 use Rattle.engine.specs.Index.{wrongLength, unsound, lentChecks, settled, tableAfterStep, widenedBy, clockOut, addOut, reportOut, dropOut}
 use Rattle.engine.proofs.CallLaws.{right-lengths}
@@ -159,10 +159,10 @@ settled-lasts w time more accepted s t lasts = go (isAccepted a) refl
     go : (b : Bool) → isAccepted a ≡ b → Lasts w (record { store = cond b s (w .store); table = cond b t (w .table) })
     go true h =
         let odd = check (unsound (w .store) (w .table)) Unsound ∷ timed in
-        let long = passed (wrongLength (w .store) (w .table)) WrongLength odd accepted refl h in
-        let h₁ = others (wrongLength (w .store) (w .table)) WrongLength odd accepted refl h in
-        let h₂ = others (unsound (w .store) (w .table)) Unsound timed accepted refl h₁ in
-        let fine = passed (badStepTime (nowOf (w .store)) time) BadTime more accepted refl h₂ in
+        let long = passed (wrongLength (w .store) (w .table)) WrongLength odd accepted h in
+        let h₁ = others (wrongLength (w .store) (w .table)) WrongLength odd accepted h in
+        let h₂ = others (unsound (w .store) (w .table)) Unsound timed accepted h₁ in
+        let fine = passed (badStepTime (nowOf (w .store)) time) BadTime more accepted h₂ in
         lasts (right-lengths (w .store) (w .table) long .1) (step-later (nowOf (w .store)) time fine)
     go false h = lasts-refl w
 
@@ -226,14 +226,14 @@ without-lasts id l =
 
 changed-lasts : (l : Ledger) (call : Call) → isAccepted (L.answerTo l call) ≡ true → LedgerLasts l (L.changedBy l call)
 unfolding L.answerTo L.changedBy
-changed-lasts l (L.clock t) h = stepped-lasts t l (step-later (l .now) t (passed _ BadTime _ _ refl h))
+changed-lasts l (L.clock t) h = stepped-lasts t l (step-later (l .now) t (passed _ BadTime _ _ h))
 changed-lasts l (L.add r) h =
-    ledger-trans (stepped-lasts (r .t) l (step-later (l .now) (r .t) (passed _ BadTime _ _ refl h))) (with-report-lasts r (stepped (r .t) l))
+    ledger-trans (stepped-lasts (r .t) l (step-later (l .now) (r .t) (passed _ BadTime _ _ h))) (with-report-lasts r (stepped (r .t) l))
 changed-lasts l (L.report r) h =
-    ledger-trans (stepped-lasts (r .t) l (step-later (l .now) (r .t) (passed _ BadTime _ _ refl h)))
+    ledger-trans (stepped-lasts (r .t) l (step-later (l .now) (r .t) (passed _ BadTime _ _ h)))
     (ledger-trans (without-lasts (r .id) (stepped (r .t) l)) (with-report-lasts r (withoutId (r .id) (stepped (r .t) l))))
 changed-lasts l (L.drop id t) h =
-    ledger-trans (stepped-lasts t l (step-later (l .now) t (passed _ BadTime _ _ refl h))) (without-lasts id (stepped t l))
+    ledger-trans (stepped-lasts t l (step-later (l .now) t (passed _ BadTime _ _ h))) (without-lasts id (stepped t l))
 changed-lasts l (L.ask method asked q room) h = ledger-refl l
 
 next-lasts : (l : Ledger) (call : Call) → LedgerLasts l (L.next l call)

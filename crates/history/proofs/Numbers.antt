@@ -9,7 +9,7 @@ use Prim.Native.Nat.{ℕ, _+_}
 use native.Mathlib.Omega.{arith}
 use Rattle.grid.specs.Sightings.{Sighting}
 use Rattle.records.specs.Soundness.{isSoundStore, isSound}
-use Rattle.ledger.specs.Answers.{numberOf}
+use Rattle.ledger.specs.Answers.{refusalNumber, numberOf}
 use Rattle.ledger.specs.Refusals.{Check, unless, firstToFail}
 use Rattle.ledger.specs.Machine.{Ledger, opened}
 use Rattle.ledger.specs.Calls as L
@@ -33,14 +33,14 @@ later-lent k = (λ e. omega arith, λ e. omega arith)
 -- what holds of each check's number and of the accepted answer's holds of the answer's
 AllNotLent : List Check → Type 0
 AllNotLent [] = Unit {0}
-AllNotLent (c ∷ cs) = NotLent (numberOf (c .answer)) × AllNotLent cs
+AllNotLent (c ∷ cs) = NotLent (refusalNumber (c .refusal)) × AllNotLent cs
 
 first-not-lent : (cs : List Check) (accepted : Answer) → AllNotLent cs → NotLent (numberOf accepted) → NotLent (numberOf (firstToFail cs accepted))
 unfolding firstToFail AllNotLent
 first-not-lent [] accepted all h = h
 first-not-lent (c ∷ cs) accepted all h = go (c .fails) (first-not-lent cs accepted (all .1) h)
   where
-    go : (b : Bool) → NotLent (numberOf (firstToFail cs accepted)) → NotLent (numberOf (unless b (c .answer) (firstToFail cs accepted)))
+    go : (b : Bool) → NotLent (numberOf (firstToFail cs accepted)) → NotLent (numberOf (unless b (c .refusal) (firstToFail cs accepted)))
     go true k = all .0
     go false k = k
 

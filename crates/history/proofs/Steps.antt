@@ -30,7 +30,9 @@ use Rattle.ledger.specs.Machine.{Ledger, Held, isHeld, without, steppedHeld, st
 use Rattle.ledger.specs.Calls as L
 use Rattle.ledger.specs.Calls.{Call, Reply}
 use Rattle.ledger.specs.declared.Answer.{Answer}
-use Rattle.ledger.specs.declared.Answer.the-variants.{Accepted, WrongLength, Unsound, BadTime, BadNumber, AlreadyHeld, NotHeld, Full}
+use Rattle.ledger.specs.declared.Answer.the-variants.{Accepted}
+use Rattle.ledger.specs.declared.Refusal.{Refusal}
+use Rattle.ledger.specs.declared.Refusal.the-variants.{WrongLength, Unsound, BadTime, BadNumber, AlreadyHeld, NotHeld, Full}
 use Rattle.ledger.proofs.MachineLaws.{stepped-length, stepped-held, without-length}
 use Rattle.engine.specs.Index.{settled, wrongLength, unsound, lentChecks, recordsAfterStep, tableAfterStep, widenedBy, clockOut, addOut, reportOut, dropOut}
 use Rattle.history.specs.Index.{Words, clock, add, report, drop, wordsOf, replyTo, next}
@@ -51,18 +53,18 @@ pub record Left (l : Ledger) (w : Words) : Type 0 where
 
 -- ---- checks in turn
 
-passes : (b : Bool) (a : Answer) (cs : List Check) (accepted : Answer) → b ≡ false → firstToFail (check b a ∷ cs) accepted ≡ firstToFail cs accepted
+passes : (b : Bool) (a : Refusal) (cs : List Check) (accepted : Answer) → b ≡ false → firstToFail (check b a ∷ cs) accepted ≡ firstToFail cs accepted
 unfolding firstToFail
 passes b a cs accepted e = rw e
 
 -- an accepted call passed its first check, and the others
-module _ (b : Bool) (a : Answer) (cs : List Check) (accepted : Answer) (refusal : isAccepted a ≡ false) (h : isAccepted (firstToFail (check b a ∷ cs) accepted) ≡ true) where
+module _ (b : Bool) (a : Refusal) (cs : List Check) (accepted : Answer) (h : isAccepted (firstToFail (check b a ∷ cs) accepted) ≡ true) where
   pub passed : b ≡ false
   unfolding firstToFail
   passed = go b h
     where
       go : (t : Bool) → isAccepted (unless t a (firstToFail cs accepted)) ≡ true → t ≡ false
-      go true k = absurd (true-false (sym k ∙ refusal))
+      go true k = absurd (true-false (sym k))
       go false k = refl
 
   pub others : isAccepted (firstToFail cs accepted) ≡ true
@@ -166,7 +168,7 @@ module _ (l : Ledger) (w : Words) (good : Good l) (match : Matches l w) where
   clock-left : (time : ℤ) → isAccepted (L.answerTo l (L.clock time)) ≡ true → Left (L.changedBy l (L.clock time)) (record { store = storeOf time (recordsAfterStep (w .store) time); table = tableAfterStep (w .store) (w .table) time })
   unfolding L.answerTo L.changedBy stepped
   clock-left time h =
-      let fine = passed (badStepTime (l .now) time) BadTime [] (Accepted (length (l .held))) refl h in
+      let fine = passed (badStepTime (l .now) time) BadTime [] (Accepted (length (l .held))) h in
       record {
         good = good-then time fine;
         matches = matches-of (stepped time l) _ (ap (storeOf time) (records-then time)) (table-matches-then time fine);
@@ -215,13 +217,13 @@ module _ (l : Ledger) (w : Words) (good : Good l) (match : Matches l w) where
       let full = check (leb capacity (length (l .held))) Full ∷ [] in
       let held = check (isHeld (r .id) (l .held)) AlreadyHeld ∷ full in
       let ranges = check (badReport r) BadNumber ∷ held in
-      let fine = passed (badStepTime (l .now) (r .t)) BadTime ranges count refl h in
-      let h₁ = others (badStepTime (l .now) (r .t)) BadTime ranges count refl h in
-      let ranged = not-false (inRange r) (passed (badReport r) BadNumber held count refl h₁) in
-      let h₂ = others (badReport r) BadNumber held count refl h₁ in
-      let new = passed (isHeld (r .id) (l .held)) AlreadyHeld full count refl h₂ in
-      let h₃ = others (isHeld (r .id) (l .held)) AlreadyHeld full count refl h₂ in
-      let room = leb-false capacity (length (l .held)) (passed (leb capacity (length (l .held))) Full [] count refl h₃) in
+      let fine = passed (badStepTime (l .now) (r .t)) BadTime ranges count h in
+      let h₁ = others (badStepTime (l .now) (r .t)) BadTime ranges count h in
+      let ranged = not-false (inRange r) (passed (badReport r) BadNumber held count h₁) in
+      let h₂ = others (badReport r) BadNumber held count h₁ in
+      let new = passed (isHeld (r .id) (l .held)) AlreadyHeld full count h₂ in
+      let h₃ = others (isHeld (r .id) (l .held)) AlreadyHeld full count h₂ in
+      let room = leb-false capacity (length (l .held)) (passed (leb capacity (length (l .held))) Full [] count h₃) in
       let good₁ = good-then (r .t) fine in
       record {
         good = report-good r l₁ good₁ ranged (sent-now (r .t) fine) (stepped-held c (r .id) (l .held) ∙ new) (omega (arith, stepped-length c (l .held)));
@@ -268,11 +270,11 @@ module _ (l : Ledger) (w : Words) (good : Good l) (match : Matches l w) where
       let count = Accepted (length (reported r l .held)) in
       let held = check (not (isHeld (r .id) (l .held))) NotHeld ∷ [] in
       let ranges = check (badReport r) BadNumber ∷ held in
-      let fine = passed (badStepTime (l .now) (r .t)) BadTime ranges count refl h in
-      let h₁ = others (badStepTime (l .now) (r .t)) BadTime ranges count refl h in
-      let ranged = not-false (inRange r) (passed (badReport r) BadNumber held count refl h₁) in
-      let h₂ = others (badReport r) BadNumber held count refl h₁ in
-      let was = not-false (isHeld (r .id) (l .held)) (passed (not (isHeld (r .id) (l .held))) NotHeld [] count refl h₂) in
+      let fine = passed (badStepTime (l .now) (r .t)) BadTime ranges count h in
+      let h₁ = others (badStepTime (l .now) (r .t)) BadTime ranges count h in
+      let ranged = not-false (inRange r) (passed (badReport r) BadNumber held count h₁) in
+      let h₂ = others (badReport r) BadNumber held count h₁ in
+      let was = not-false (isHeld (r .id) (l .held)) (passed (not (isHeld (r .id) (l .held))) NotHeld [] count h₂) in
       let good₁ = good-then (r .t) fine in
       let good₂ = without-good (r .id) l₁ good₁ in
       let fewer = without-length (r .id) (heldThen (r .t)) (stepped-held c (r .id) (l .held) ∙ was) in
@@ -308,7 +310,7 @@ module _ (l : Ledger) (w : Words) (good : Good l) (match : Matches l w) where
   drop-left id time h =
       let l₁ = stepped time l in
       let ranges = check (badId id) BadNumber ∷ check (not (isHeld id (l .held))) NotHeld ∷ [] in
-      let fine = passed (badStepTime (l .now) time) BadTime ranges (Accepted (length (dropped id time l .held))) refl h in
+      let fine = passed (badStepTime (l .now) time) BadTime ranges (Accepted (length (dropped id time l .held))) h in
       record {
         good = without-good id l₁ (good-then time fine);
         matches = matches-of (withoutId id l₁) _ (ap (storeOf time) (left-records id time)) (without-table id l₁ _ (table-matches-then time fine));

@@ -11,13 +11,14 @@ use lib.Dec.{eqb, ltb}
 use borrow.Author.Tests.{ltb-true}
 use Rattle.ints.proofs.Parts.{true-false}
 use Rattle.ints.proofs.Truth.{and-left, and-right}
-use Rattle.ledger.specs.Answers.{numberOf, valueOf, noCounts, countsOf, isAccepted}
+use Rattle.ledger.specs.Answers.{refusalNumber, numberOf, valueOf, noCounts, countsOf, isAccepted}
 use Rattle.ledger.specs.Refusals.{Check, unless, firstToFail, inNumberOrder}
 use Rattle.ledger.specs.Machine.{Ledger}
 use Rattle.ledger.specs.Calls.{Call, clock, add, report, drop, ask, checksOf}
 use Rattle.ledger.specs.Claims.{ChecksStandInOrder, FirstFails, FirstToFailIsGiven, LeastNumberIsGiven, RefusalIsPlain, RefusalsArePlain}
 use Rattle.ledger.specs.declared.Answer.{Answer}
-use Rattle.ledger.specs.declared.Answer.the-variants.{Accepted, Listed, WrongLength, Unsound, BadTime, BadNumber, AlreadyHeld, NotHeld, Full, ListTooShort}
+use Rattle.ledger.specs.declared.Answer.the-variants.{Accepted, Listed, Refused}
+use Rattle.ledger.specs.declared.Refusal.the-variants.{WrongLength, Unsound, BadTime, BadNumber, AlreadyHeld, NotHeld, Full, ListTooShort}
 
 -- ---- number order
 
@@ -39,11 +40,11 @@ first-given :
     (before : List Check) (c : Check) (behind : List Check) (accepted : Answer)
     → ((b : Check) → List·Memᴰ b before → b .fails ≡ false)
     → c .fails ≡ true
-    → firstToFail (before ++ c ∷ behind) accepted ≡ c .answer
+    → firstToFail (before ++ c ∷ behind) accepted ≡ Refused (c .refusal)
 unfolding firstToFail
-first-given [] c behind accepted passed failed = ap (λ (t : Bool). unless t (c .answer) (firstToFail behind accepted)) failed
+first-given [] c behind accepted passed failed = ap (λ (t : Bool). unless t (c .refusal) (firstToFail behind accepted)) failed
 first-given (b ∷ before) c behind accepted passed failed =
-    ap (λ (t : Bool). unless t (b .answer) (firstToFail (before ++ c ∷ behind) accepted)) (passed b (List·Memᴰ·head refl))
+    ap (λ (t : Bool). unless t (b .refusal) (firstToFail (before ++ c ∷ behind) accepted)) (passed b (List·Memᴰ·head refl))
     ∙ first-given before c behind accepted (λ d m. passed d (List·Memᴰ·tail m)) failed
 
 -- one more check that passes stands before it
@@ -56,7 +57,7 @@ first-later b e f = record {
   failed = f .failed;
 }
 
-number-from : (cs : List Check) (accepted : Answer) (n : ℕ) → (numberOf accepted ≡ n → ⊥) → numberOf (firstToFail cs accepted) ≡ n → (c : Check) × FirstFails c cs × (numberOf (c .answer) ≡ n)
+number-from : (cs : List Check) (accepted : Answer) (n : ℕ) → (numberOf accepted ≡ n → ⊥) → numberOf (firstToFail cs accepted) ≡ n → (c : Check) × FirstFails c cs × (refusalNumber (c .refusal) ≡ n)
 unfolding firstToFail
 number-from [] accepted n other e = absurd (other e)
 number-from (c ∷ cs) accepted n other e = go (c .fails) refl (number-from cs accepted n other) e
@@ -64,8 +65,8 @@ number-from (c ∷ cs) accepted n other e = go (c .fails) refl (number-from cs a
     go :
         (t : Bool)
         → c .fails ≡ t
-        → (numberOf (firstToFail cs accepted) ≡ n → (d : Check) × FirstFails d cs × (numberOf (d .answer) ≡ n))
-        → numberOf (unless t (c .answer) (firstToFail cs accepted)) ≡ n → (d : Check) × FirstFails d (c ∷ cs) × (numberOf (d .answer) ≡ n)
+        → (numberOf (firstToFail cs accepted) ≡ n → (d : Check) × FirstFails d cs × (refusalNumber (d .refusal) ≡ n))
+        → numberOf (unless t (c .refusal) (firstToFail cs accepted)) ≡ n → (d : Check) × FirstFails d (c ∷ cs) × (refusalNumber (d .refusal) ≡ n)
     go true f later k =
         (c, record { before = []; behind = cs; checks-are = refl; passed = λ b m. absurd (List·Memᴰ·not-nil m); failed = f }, k)
     go false f later k = let a = later k in (a .0, first-later c f (a .1), a .2)
@@ -82,18 +83,18 @@ order-rest : (c : Check) (cs : List Check) → inNumberOrder (c ∷ cs) ≡ true
 unfolding inNumberOrder
 order-rest c [] h = refl
 order-rest c (d ∷ more) h =
-    and-right (ltb (numberOf (c .answer)) (numberOf (d .answer))) (inNumberOrder (d ∷ more)) h
+    and-right (ltb (refusalNumber (c .refusal)) (refusalNumber (d .refusal))) (inNumberOrder (d ∷ more)) h
 
 -- the first has the least number
-first-least : (c : Check) (cs : List Check) → inNumberOrder (c ∷ cs) ≡ true → (d : Check) → List·Memᴰ d cs → numberOf (c .answer) ≤ numberOf (d .answer)
+first-least : (c : Check) (cs : List Check) → inNumberOrder (c ∷ cs) ≡ true → (d : Check) → List·Memᴰ d cs → refusalNumber (c .refusal) ≤ refusalNumber (d .refusal)
 unfolding inNumberOrder
 first-least c [] h d m = absurd (List·Memᴰ·not-nil m)
 first-least c (b ∷ more) h d m =
-    let low = numberOf (c .answer) in
-    let high = numberOf (b .answer) in
+    let low = refusalNumber (c .refusal) in
+    let high = refusalNumber (b .refusal) in
     let less : low < high = ltb-true low high (and-left (ltb low high) (inNumberOrder (b ∷ more)) h) in
     ⊎-elim
-    (λ (same : d ≡ b). let e : numberOf (d .answer) ≡ high = ap (λ (k : Check). numberOf (k .answer)) same in omega arith)
+    (λ (same : d ≡ b). let e : refusalNumber (d .refusal) ≡ high = ap (λ (k : Check). refusalNumber (k .refusal)) same in omega arith)
     (λ k. let rest = first-least b more (order-rest c (b ∷ more) h) d k in omega arith)
     (List·Memᴰ·cases-cons m)
 
@@ -103,10 +104,10 @@ least-number-is-given [] accepted h d m f = absurd (List·Memᴰ·not-nil m)
 least-number-is-given (c ∷ cs) accepted h d m f =
     go (c .fails) refl (λ k. least-number-is-given cs accepted (order-rest c cs h) d k f)
   where
-    go : (t : Bool) → c .fails ≡ t → (List·Memᴰ d cs → numberOf (firstToFail cs accepted) ≤ numberOf (d .answer)) → numberOf (unless t (c .answer) (firstToFail cs accepted)) ≤ numberOf (d .answer)
+    go : (t : Bool) → c .fails ≡ t → (List·Memᴰ d cs → numberOf (firstToFail cs accepted) ≤ refusalNumber (d .refusal)) → numberOf (unless t (c .refusal) (firstToFail cs accepted)) ≤ refusalNumber (d .refusal)
     go true e later =
         ⊎-elim
-        (λ (same : d ≡ c). let k : numberOf (d .answer) ≡ numberOf (c .answer) = ap (λ (x : Check). numberOf (x .answer)) same in omega arith)
+        (λ (same : d ≡ c). let k : refusalNumber (d .refusal) ≡ refusalNumber (c .refusal) = ap (λ (x : Check). refusalNumber (x .refusal)) same in omega arith)
         (λ k. first-least c cs h d k)
         (List·Memᴰ·cases-cons m)
     go false e later =
@@ -124,11 +125,11 @@ refused-plain e c v = record { number-tells = e; no-counts = λ n. c; no-value =
 pub refusals-are-plain : RefusalsArePlain
 refusals-are-plain (Accepted held) = accepted-plain refl refl
 refusals-are-plain (Listed ids cells useful rounds) = accepted-plain refl refl
-refusals-are-plain WrongLength = refused-plain refl refl (λ n. refl)
-refusals-are-plain Unsound = refused-plain refl refl (λ n. refl)
-refusals-are-plain BadTime = refused-plain refl refl (λ n. refl)
-refusals-are-plain BadNumber = refused-plain refl refl (λ n. refl)
-refusals-are-plain AlreadyHeld = refused-plain refl refl (λ n. refl)
-refusals-are-plain NotHeld = refused-plain refl refl (λ n. refl)
-refusals-are-plain Full = refused-plain refl refl (λ n. refl)
-refusals-are-plain (ListTooShort needed) = refused-plain refl refl (λ n. absurd (n refl))
+refusals-are-plain (Refused WrongLength) = refused-plain refl refl (λ n. refl)
+refusals-are-plain (Refused Unsound) = refused-plain refl refl (λ n. refl)
+refusals-are-plain (Refused BadTime) = refused-plain refl refl (λ n. refl)
+refusals-are-plain (Refused BadNumber) = refused-plain refl refl (λ n. refl)
+refusals-are-plain (Refused AlreadyHeld) = refused-plain refl refl (λ n. refl)
+refusals-are-plain (Refused NotHeld) = refused-plain refl refl (λ n. refl)
+refusals-are-plain (Refused Full) = refused-plain refl refl (λ n. refl)
+refusals-are-plain (Refused (ListTooShort needed)) = refused-plain refl refl (λ n. absurd (n refl))

@@ -19,7 +19,8 @@ use Rattle.ledger.specs.Machine.{opened, steppedHeld, newPlacements, liv
 use Rattle.ledger.specs.Calls.{answerTo, changedBy, idsOf, next, replyTo, replies, after}
 use Rattle.ledger.specs.Sightings.{sightings, ledgerP11, ledgerP12, phasesHeld, columnsPlaced, listing, listingSays, sent, answers, refused, refusedSays, crowd, ledgerOfOne, numbers}
 use Rattle.ledger.specs.Calls.{add}
-use Rattle.ledger.specs.declared.Answer.the-variants.{Accepted, Full}
+use Rattle.ledger.specs.declared.Answer.the-variants.{Accepted, Refused}
+use Rattle.ledger.specs.declared.Refusal.the-variants.{Full}
 
 pub all-as-said : map (λ (s : Sighting). s .given) sightings ≡ map (λ (s : Sighting). s .said) sightings
 unfolding sightings Grid.sightings ledgerP11 ledgerP12 phasesHeld columnsPlaced columnOf cellSpan numberAt minZ maxZ eqZ joined sameRow isEmpty boundsOf expandedRange expandedRect blockOf cellsOfRow cellsOfRows cellsOf movedSpan meets movedCellMeets boundsIn expandedBlock iterated reached choice inRange xAt yAt inRect isListed phaseOf referenceTime isLive livePhases firstToFail isRectangle steppedHeld newPlacements livePlacements stepped isHeld without withReport withoutId speedsPlaced rowsIn listedHeld isUseful usefulCells putInOrder idsInOrder summed answerTo changedBy idsOf next replyTo replies after
@@ -33,7 +34,7 @@ pub refused-as-said : answers (opened (pos 3600)) refused ≡ refusedSays
 unfolding answers refused refusedSays columnOf cellSpan numberAt minZ maxZ eqZ joined sameRow isEmpty boundsOf expandedRange expandedRect blockOf cellsOfRow cellsOfRows cellsOf movedSpan meets movedCellMeets boundsIn expandedBlock iterated reached choice inRange xAt yAt inRect isListed phaseOf referenceTime isLive livePhases firstToFail isRectangle steppedHeld newPlacements livePlacements stepped isHeld without withReport withoutId speedsPlaced rowsIn listedHeld isUseful usefulCells putInOrder idsInOrder summed answerTo changedBy idsOf next replyTo replies after
 refused-as-said = refl
 
-pub full-as-said : (answerTo (crowd 1024) (add (sent 2 0 0 0 (pos 0) (pos 0))) ≡ Full) × (answerTo (crowd 1023) (add (sent 2 0 0 0 (pos 0) (pos 0))) ≡ Accepted 1024)
+pub full-as-said : (answerTo (crowd 1024) (add (sent 2 0 0 0 (pos 0) (pos 0))) ≡ Refused Full) × (answerTo (crowd 1023) (add (sent 2 0 0 0 (pos 0) (pos 0))) ≡ Accepted 1024)
 unfolding columnOf cellSpan numberAt minZ maxZ eqZ joined sameRow isEmpty boundsOf expandedRange expandedRect blockOf cellsOfRow cellsOfRows cellsOf movedSpan meets movedCellMeets boundsIn expandedBlock iterated reached choice inRange xAt yAt inRect isListed phaseOf referenceTime isLive livePhases firstToFail isRectangle steppedHeld newPlacements livePlacements stepped isHeld without withReport withoutId speedsPlaced rowsIn listedHeld isUseful usefulCells putInOrder idsInOrder summed answerTo changedBy idsOf next replyTo replies after
 full-as-said = (refl, refl)
 

@@ -3,33 +3,43 @@
 use mathlib.Core.Bool.{Bool, true, false}
 use Prim.Native.Nat.{ℕ}
 use Rattle.ledger.specs.declared.Answer.{Answer}
-use Rattle.ledger.specs.declared.Answer.the-variants.{Accepted, Listed, WrongLength, Unsound, BadTime, BadNumber, AlreadyHeld, NotHeld, Full, ListTooShort}
+use Rattle.ledger.specs.declared.Answer.the-variants.{Accepted, Listed, Refused}
+use Rattle.ledger.specs.declared.Refusal.{Refusal}
+use Rattle.ledger.specs.declared.Refusal.the-variants.{WrongLength, Unsound, BadTime, BadNumber, AlreadyHeld, NotHeld, Full, ListTooShort}
+
+-- the number of a refusal
+abbrev pub refusalNumber : Refusal → ℕ
+refusalNumber WrongLength = 1
+refusalNumber Unsound = 2
+refusalNumber BadTime = 3
+refusalNumber BadNumber = 4
+refusalNumber AlreadyHeld = 5
+refusalNumber NotHeld = 6
+refusalNumber Full = 7
+refusalNumber (ListTooShort needed) = 8
+
+-- the value returned with it: the ids needed, else 0
+abbrev pub refusalValue : Refusal → ℕ
+refusalValue WrongLength = 0
+refusalValue Unsound = 0
+refusalValue BadTime = 0
+refusalValue BadNumber = 0
+refusalValue AlreadyHeld = 0
+refusalValue NotHeld = 0
+refusalValue Full = 0
+refusalValue (ListTooShort needed) = needed
 
 -- the number: 0 where the call is accepted
 abbrev pub numberOf : Answer → ℕ
 numberOf (Accepted held) = 0
 numberOf (Listed ids cells useful rounds) = 0
-numberOf WrongLength = 1
-numberOf Unsound = 2
-numberOf BadTime = 3
-numberOf BadNumber = 4
-numberOf AlreadyHeld = 5
-numberOf NotHeld = 6
-numberOf Full = 7
-numberOf (ListTooShort needed) = 8
+numberOf (Refused r) = refusalNumber r
 
--- the value returned: the floats held, the ids listed, the ids needed, else 0
+-- the value returned: the floats held, or the ids listed
 abbrev pub valueOf : Answer → ℕ
 valueOf (Accepted held) = held
 valueOf (Listed ids cells useful rounds) = ids
-valueOf WrongLength = 0
-valueOf Unsound = 0
-valueOf BadTime = 0
-valueOf BadNumber = 0
-valueOf AlreadyHeld = 0
-valueOf NotHeld = 0
-valueOf Full = 0
-valueOf (ListTooShort needed) = needed
+valueOf (Refused r) = refusalValue r
 
 -- cells read, useful cells and rounds: 0 but for an accepted ask
 pub record Counts : Type 0 where
@@ -43,23 +53,9 @@ noCounts = record { cells = 0; useful = 0; rounds = 0 }
 abbrev pub countsOf : Answer → Counts
 countsOf (Accepted held) = noCounts
 countsOf (Listed ids cells useful rounds) = record { cells = cells; useful = useful; rounds = rounds }
-countsOf WrongLength = noCounts
-countsOf Unsound = noCounts
-countsOf BadTime = noCounts
-countsOf BadNumber = noCounts
-countsOf AlreadyHeld = noCounts
-countsOf NotHeld = noCounts
-countsOf Full = noCounts
-countsOf (ListTooShort needed) = noCounts
+countsOf (Refused r) = noCounts
 
 abbrev pub isAccepted : Answer → Bool
 isAccepted (Accepted held) = true
 isAccepted (Listed ids cells useful rounds) = true
-isAccepted WrongLength = false
-isAccepted Unsound = false
-isAccepted BadTime = false
-isAccepted BadNumber = false
-isAccepted AlreadyHeld = false
-isAccepted NotHeld = false
-isAccepted Full = false
-isAccepted (ListTooShort needed) = false
+isAccepted (Refused r) = false

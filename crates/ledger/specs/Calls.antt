@@ -15,7 +15,8 @@ use Rattle.ledger.specs.Answers.{isAccepted}
 use Rattle.ledger.specs.Refusals.{Check, check, firstToFail, badTime, badStepTime, badAskTime, badReport, badId, badAsk}
 use Rattle.ledger.specs.Machine.{Ledger, stepped, isHeld, added, reported, dropped, idsListed, cellsRead, usefulRead, roundsTaken}
 use Rattle.ledger.specs.declared.Answer.{Answer}
-use Rattle.ledger.specs.declared.Answer.the-variants.{Accepted, Listed, BadTime, BadNumber, AlreadyHeld, NotHeld, Full, ListTooShort}
+use Rattle.ledger.specs.declared.Answer.the-variants.{Accepted, Listed}
+use Rattle.ledger.specs.declared.Refusal.the-variants.{BadTime, BadNumber, AlreadyHeld, NotHeld, Full, ListTooShort}
 
 -- a call with its numbers; an ask with the length of its answer list
 pub data Call : Type 0 where

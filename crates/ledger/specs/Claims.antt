@@ -6,11 +6,12 @@ use mathlib.Core.List.{List, _∷_, _++_, List·Memᴰ}
 use Prim.Native.Nat.{ℕ, _≤_}
 use lib.Dec.{eqb}
 use lib.IntN.{ℤ}
-use Rattle.ledger.specs.Answers.{numberOf, valueOf, noCounts, countsOf, isAccepted}
+use Rattle.ledger.specs.Answers.{refusalNumber, numberOf, valueOf, noCounts, countsOf, isAccepted}
 use Rattle.ledger.specs.Refusals.{Check, firstToFail, inNumberOrder}
 use Rattle.ledger.specs.Machine.{Ledger}
 use Rattle.ledger.specs.Calls.{Call, openChecks, checksOf}
 use Rattle.ledger.specs.declared.Answer.{Answer}
+use Rattle.ledger.specs.declared.Answer.the-variants.{Refused}
 
 -- checks run in number order (S15): those of open and of each later call stand in it
 abbrev pub ChecksStandInOrder : Type 0
@@ -28,8 +29,8 @@ pub record FirstFails (c : Check) (cs : List Check) : Type 0 where
 
 -- the first to fail is given, and a number is given only then (S2)
 pub record GivesTheFirst (cs : List Check) (accepted : Answer) : Type 0 where
-  pub given : (c : Check) → FirstFails c cs → firstToFail cs accepted ≡ c .answer
-  pub only-then : (n : ℕ) → (numberOf accepted ≡ n → ⊥) → numberOf (firstToFail cs accepted) ≡ n → (c : Check) × FirstFails c cs × (numberOf (c .answer) ≡ n)
+  pub given : (c : Check) → FirstFails c cs → firstToFail cs accepted ≡ Refused (c .refusal)
+  pub only-then : (n : ℕ) → (numberOf accepted ≡ n → ⊥) → numberOf (firstToFail cs accepted) ≡ n → (c : Check) × FirstFails c cs × (refusalNumber (c .refusal) ≡ n)
 
 abbrev pub FirstToFailIsGiven : Type 0
 FirstToFailIsGiven = (cs : List Check) (accepted : Answer) → GivesTheFirst cs accepted
@@ -42,7 +43,7 @@ LeastNumberIsGiven =
     → (c : Check)
     → List·Memᴰ c cs
     → c .fails ≡ true
-    → numberOf (firstToFail cs accepted) ≤ numberOf (c .answer)
+    → numberOf (firstToFail cs accepted) ≤ refusalNumber (c .refusal)
 
 -- number 0 is that of an accepted call; a refused one has no counts, and every number but 8 returns 0 (S2)
 pub record RefusalIsPlain (a : Answer) : Type 0 where

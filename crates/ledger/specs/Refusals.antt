@@ -10,31 +10,33 @@ use Rattle.ints.specs.Whole.{between}
 use Rattle.grid.specs.Reports.{isTime, isId, isPosition, inRange}
 use Rattle.grid.specs.declared.Rect.{Rect}
 use Rattle.grid.specs.declared.Report.{Report}
-use Rattle.ledger.specs.Answers.{numberOf}
+use Rattle.ledger.specs.Answers.{refusalNumber}
 use Rattle.ledger.specs.declared.Answer.{Answer}
+use Rattle.ledger.specs.declared.Answer.the-variants.{Refused}
+use Rattle.ledger.specs.declared.Refusal.{Refusal}
 
--- one check: whether it fails, and the answer given then
+-- one check: whether it fails, and the refusal given then
 pub record Check : Type 0 where
   pub fails : Bool
-  pub answer : Answer
+  pub refusal : Refusal
 
-abbrev pub check : Bool → Answer → Check
-check b a = record { fails = b; answer = a }
+abbrev pub check : Bool → Refusal → Check
+check b r = record { fails = b; refusal = r }
 
-abbrev pub unless : Bool → Answer → Answer → Answer
-unless true a b = a
-unless false a b = b
+abbrev pub unless : Bool → Refusal → Answer → Answer
+unless true r a = Refused r
+unless false r a = a
 
 -- checks run one by one, and the first to fail is given; with none the call is accepted
 unfoldable pub firstToFail : List Check → Answer → Answer
 firstToFail [] accepted = accepted
-firstToFail (c ∷ cs) accepted = unless (c .fails) (c .answer) (firstToFail cs accepted)
+firstToFail (c ∷ cs) accepted = unless (c .fails) (c .refusal) (firstToFail cs accepted)
 
 -- each check's number is below that of the check after it
 unfoldable pub inNumberOrder : List Check → Bool
 inNumberOrder [] = true
 inNumberOrder (c ∷ []) = true
-inNumberOrder (c ∷ d ∷ more) = ltb (numberOf (c .answer)) (numberOf (d .answer)) && inNumberOrder (d ∷ more)
+inNumberOrder (c ∷ d ∷ more) = ltb (refusalNumber (c .refusal)) (refusalNumber (d .refusal)) && inNumberOrder (d ∷ more)
 
 -- 3, for open: time outside its range
 abbrev pub badTime : ℤ → Bool

@@ -13,7 +13,8 @@ use Rattle.ledger.specs.Answers.{numberOf, countsOf}
 use Rattle.ledger.specs.Machine.{Ledger, Held, Placement, opened}
 use Rattle.ledger.specs.Calls.{Call, Reply, clock, add, report, drop, ask, after, answerTo}
 use Rattle.ledger.specs.declared.Answer.{Answer}
-use Rattle.ledger.specs.declared.Answer.the-variants.{Accepted, Listed, BadTime, BadNumber, AlreadyHeld, NotHeld, ListTooShort}
+use Rattle.ledger.specs.declared.Answer.the-variants.{Accepted, Listed, Refused}
+use Rattle.ledger.specs.declared.Refusal.the-variants.{BadTime, BadNumber, AlreadyHeld, NotHeld, ListTooShort}
 
 abbrev pub sent : ℕ → ℕ → ℕ → ℕ → ℤ → ℤ → Report
 sent id t x y vx vy = record { id = pos id; t = pos t; x = pos x; y = pos y; vx = vx; vy = vy }
@@ -82,7 +83,7 @@ listingSays =
     ∷ record { answer = Listed 2 2 2 0; ids = 7 ∷ 9 ∷ [] }
     ∷ record { answer = Accepted 1; ids = [] }
     ∷ record { answer = Listed 1 3 1 0; ids = 9 ∷ [] }
-    ∷ record { answer = NotHeld; ids = [] }
+    ∷ record { answer = Refused NotHeld; ids = [] }
     ∷ []
 
 -- the answers to some calls, from a ledger on
@@ -117,23 +118,23 @@ refused =
 
 unfoldable pub refusedSays : List Answer
 refusedSays =
-    BadTime
-    ∷ BadTime
+    Refused BadTime
+    ∷ Refused BadTime
     ∷ Accepted 0
-    ∷ BadNumber
-    ∷ BadNumber
-    ∷ BadNumber
-    ∷ BadTime
+    ∷ Refused BadNumber
+    ∷ Refused BadNumber
+    ∷ Refused BadNumber
+    ∷ Refused BadTime
     ∷ Accepted 1
-    ∷ AlreadyHeld
-    ∷ NotHeld
-    ∷ NotHeld
-    ∷ BadTime
+    ∷ Refused AlreadyHeld
+    ∷ Refused NotHeld
+    ∷ Refused NotHeld
+    ∷ Refused BadTime
     ∷ Listed 0 1 0 0
-    ∷ BadTime
-    ∷ BadNumber
-    ∷ BadNumber
-    ∷ ListTooShort 1
+    ∷ Refused BadTime
+    ∷ Refused BadNumber
+    ∷ Refused BadNumber
+    ∷ Refused (ListTooShort 1)
     ∷ Listed 1 1 1 0
     ∷ Accepted 1
     ∷ Accepted 0

@@ -1,10 +1,17 @@
 // What a call gives back, in the index and in the plain ledger alike. The ledger itself is definitions only: see specs/.
+ghost use mathlib.Core.Path.{_≡_};
+ghost use Rattle.ledger.specs.Answers.{refusalNumber, refusalValue};
 
 pub enum Answer {
     // An accepted open, clock, add, report or drop: the floats held.
     Accepted(usize),
     // An accepted ask: ids listed, cells read, useful cells, rounds.
     Listed(usize, usize, usize, usize),
+    Refused(Refusal),
+}
+
+// Why a call is declined, by document 01's numbers.
+pub enum Refusal {
     // 1: store not 7,175 words or table not 12,288 numbers.
     WrongLength,
     // 2: store or table unsound.
@@ -21,4 +28,37 @@ pub enum Answer {
     Full,
     // 8: ask, list shorter than the ids needed.
     ListTooShort(usize),
+}
+
+impl Refusal {
+    pub fn number(self) -> usize
+        ensures { λ r. ⌜ r ≡ refusalNumber self ⌝ }
+    {
+        match self {
+            Refusal::WrongLength => 1,
+            Refusal::Unsound => 2,
+            Refusal::BadTime => 3,
+            Refusal::BadNumber => 4,
+            Refusal::AlreadyHeld => 5,
+            Refusal::NotHeld => 6,
+            Refusal::Full => 7,
+            Refusal::ListTooShort(_) => 8,
+        }
+    }
+
+    // The value returned with it.
+    pub fn value(self) -> usize
+        ensures { λ r. ⌜ r ≡ refusalValue self ⌝ }
+    {
+        match self {
+            Refusal::ListTooShort(needed) => needed,
+            Refusal::WrongLength => 0,
+            Refusal::Unsound => 0,
+            Refusal::BadTime => 0,
+            Refusal::BadNumber => 0,
+            Refusal::AlreadyHeld => 0,
+            Refusal::NotHeld => 0,
+            Refusal::Full => 0,
+        }
+    }
 }

@@ -13,7 +13,7 @@ use Rattle.grid.specs.declared.Rect.{Rect}
 use Rattle.grid.specs.declared.Report.{Report}
 use Rattle.ledger.specs.Answers.{numberOf, valueOf, countsOf}
 use Rattle.ledger.specs.declared.Answer.{Answer}
-use Rattle.ledger.specs.declared.Answer.the-variants.{Accepted, Listed, WrongLength, Unsound, BadTime, BadNumber, AlreadyHeld, NotHeld, Full, ListTooShort}
+use Rattle.ledger.specs.declared.Answer.the-variants.{Accepted, Listed, Refused}
 use Rattle.lines.specs.declared.LineCall.{LineCall}
 use Rattle.lines.specs.declared.LineCall.the-variants.{Open, Clock, Add, Update, Drop, Ask, NoCall}
 
@@ -95,14 +95,7 @@ callLine NoCall = []
 abbrev pub isListing : Answer → Bool
 isListing (Accepted held) = false
 isListing (Listed listed cells useful rounds) = true
-isListing WrongLength = false
-isListing Unsound = false
-isListing BadTime = false
-isListing BadNumber = false
-isListing AlreadyHeld = false
-isListing NotHeld = false
-isListing Full = false
-isListing (ListTooShort needed) = false
+isListing (Refused r) = false
 
 -- what an accepted ask's line has after the number and the value returned, which is the ids listed: cells, useful, rounds, then the ids
 abbrev pub furtherNumbers : Answer → List ℕ → List ℕ

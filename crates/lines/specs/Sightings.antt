@@ -7,7 +7,8 @@ use Prim.Native.String.{String, [] as []ᵀ, _∷_ as _∷ᵀ_}
 use lib.IntN.{pos, negsuc}
 use Rattle.ledger.specs.Sightings.{sent, rectangle}
 use Rattle.ledger.specs.declared.Answer.{Answer}
-use Rattle.ledger.specs.declared.Answer.the-variants.{Accepted, Listed, NotHeld, ListTooShort}
+use Rattle.ledger.specs.declared.Answer.the-variants.{Accepted, Listed, Refused}
+use Rattle.ledger.specs.declared.Refusal.the-variants.{NotHeld, ListTooShort}
 use Rattle.lines.specs.declared.LineCall.{LineCall}
 use Rattle.lines.specs.declared.LineCall.the-variants.{Open, Clock, Add, Drop, Ask}
 
@@ -69,12 +70,12 @@ answered =
       ids = 9 ∷ [];
       line = "Q         0         1         3         1         0         9";
     }
-    ∷ record { letter = "D"; answer = NotHeld; ids = []; line = "D         6         0" }
+    ∷ record { letter = "D"; answer = Refused NotHeld; ids = []; line = "D         6         0" }
     ∷ []
 
 -- an ask refused for its list, lent some ids, none of which is written
 abbrev pub shortList : Answered
-shortList = record { letter = "Q"; answer = ListTooShort 2; ids = 7 ∷ []; line = "Q         8         2" }
+shortList = record { letter = "Q"; answer = Refused (ListTooShort 2); ids = 7 ∷ []; line = "Q         8         2" }
 
 -- the least and the greatest number
 unfoldable pub limits : List Said

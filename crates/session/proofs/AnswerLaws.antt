@@ -20,13 +20,15 @@ use Rattle.rows.specs.Table.{tableWords, withSlotEmpty}
 use Rattle.records.specs.Records.{storeWords, nowOf, storeOf}
 use Rattle.records.specs.Soundness.{isSound}
 use Rattle.records.proofs.SoundLaws as Sound
-use Rattle.ledger.specs.Answers.{isAccepted, numberOf, valueOf, countsOf}
+use Rattle.ledger.specs.Answers.{refusalNumber, isAccepted, numberOf, valueOf, countsOf}
 use Rattle.ledger.specs.Refusals.{unless, firstToFail, badTime, badAskTime, badAsk}
 use Rattle.ledger.specs.Machine.{Ledger, opened}
 use Rattle.ledger.specs.Calls as L
 use Rattle.ledger.specs.Calls.{Reply, answerOfOpen}
 use Rattle.ledger.specs.declared.Answer.{Answer}
-use Rattle.ledger.specs.declared.Answer.the-variants.{Accepted, Listed, WrongLength, Unsound, BadTime, BadNumber, AlreadyHeld, NotHeld, Full, ListTooShort}
+use Rattle.ledger.specs.declared.Answer.the-variants.{Accepted, Listed, Refused}
+use Rattle.ledger.specs.declared.Refusal.{Refusal}
+use Rattle.ledger.specs.declared.Refusal.the-variants.{WrongLength, Unsound, BadTime, BadNumber, AlreadyHeld, NotHeld, Full, ListTooShort}
 use Rattle.engine.specs.Index.{Outcome, wrongLength, unsound, settled, openOut, clockOut, addOut, reportOut, dropOut, askOut, askAnswer, idsNeeded, cellsCounted, usefulCounted, roundsCounted}
 use Rattle.engine.specs.Gives.{Gives, GivesList}
 use Rattle.engine.proofs.SmallAnswers.{SmallAnswer, ask-small}
@@ -44,17 +46,20 @@ use Rattle.session.specs.Session.{wordsIn, answerBytes, AtPoint, Answers
 
 -- ---- room for an answer
 
+refusal-small : (r : Refusal) → refusalNumber r ≤ 8
+refusal-small WrongLength = omega arith
+refusal-small Unsound = omega arith
+refusal-small BadTime = omega arith
+refusal-small BadNumber = omega arith
+refusal-small AlreadyHeld = omega arith
+refusal-small NotHeld = omega arith
+refusal-small Full = omega arith
+refusal-small (ListTooShort needed) = omega arith
+
 number-small : (a : Answer) → numberOf a ≤ 8
 number-small (Accepted held) = omega arith
 number-small (Listed ids cells useful rounds) = omega arith
-number-small WrongLength = omega arith
-number-small Unsound = omega arith
-number-small BadTime = omega arith
-number-small BadNumber = omega arith
-number-small AlreadyHeld = omega arith
-number-small NotHeld = omega arith
-number-small Full = omega arith
-number-small (ListTooShort needed) = omega arith
+number-small (Refused r) = refusal-small r
 
 one-writable : (n : ℕ) (zs : List ℤ) → n ≤ greatest → areWritable zs ≡ true → areWritable (pos n ∷ zs) ≡ true
 unfolding areWritable

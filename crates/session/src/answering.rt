@@ -71,14 +71,7 @@ fn ids_in(answer: Answer) -> usize
     match answer {
         Answer::Accepted(held) => held,
         Answer::Listed(listed, _, _, _) => listed,
-        Answer::WrongLength => 0,
-        Answer::Unsound => 0,
-        Answer::BadTime => 0,
-        Answer::BadNumber => 0,
-        Answer::AlreadyHeld => 0,
-        Answer::NotHeld => 0,
-        Answer::Full => 0,
-        Answer::ListTooShort(_) => 0,
+        Answer::Refused(_) => 0,
     }
 }
 

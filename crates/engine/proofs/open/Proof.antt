@@ -1,6 +1,6 @@
 -- `engine::open` meets its contract: refused, nothing changes; accepted, an empty store and empty rows.
 -- Assumes nothing.
-use mathlib.Core.Path.{_≡_, refl, sym, ap, _∙_}
+use mathlib.Core.Path.{_≡_, sym, ap, _∙_}
 use borrow.Author.Needs.{needs}
 use borrow.Author.Tests.{not-true, not-false}
 use mir.Syntax.{w32}
@@ -9,7 +9,8 @@ use mathlib.Core.Bool.{true, false}
 use mathlib.Core.List.{[], _∷_}
 use lib.IntN.{ℤ}
 use Rattle.ledger.specs.Refusals.{check, badTime}
-use Rattle.ledger.specs.declared.Answer.the-variants.{Accepted, WrongLength, BadTime}
+use Rattle.ledger.specs.declared.Answer.the-variants.{Accepted}
+use Rattle.ledger.specs.declared.Refusal.the-variants.{WrongLength, BadTime}
 use Rattle.ledger.specs.Answers.{isAccepted}
 use Rattle.records.specs.Records.{storeOf}
 use Rattle.engine.specs.Index.{openAnswer, openOut, wrongLength}
@@ -33,7 +34,7 @@ accepted c = sym (c .before .is-accepted .ensures) ∙ not-false (c .before .is-
 lengths : (c : tie.Else1) → wrongLength (c .before .before .before .before .before .args .store .now) (c .before .before .before .before .before .args .table .now) ≡ false
 lengths c =
     let a = c .before .before .before .before .before .args in
-    accepted-passed (wrongLength (a .store .now) (a .table .now)) WrongLength (check (badTime (a .t)) BadTime ∷ []) (Accepted 0) refl (sym (ap isAccepted (answer-is (c .before .before))) ∙ accepted c) .0
+    accepted-passed (wrongLength (a .store .now) (a .table .now)) WrongLength (check (badTime (a .t)) BadTime ∷ []) (Accepted 0) (sym (ap isAccepted (answer-is (c .before .before))) ∙ accepted c) .0
 
 same-length : tie.Need-same-length
 same-length c = search needs

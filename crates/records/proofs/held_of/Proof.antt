@@ -1,4 +1,4 @@
--- `store::held_of` meets its contract: the second word, or 0 where that is below 0.
+-- `records::held_of` meets its contract: the second word, or 0 where that is below 0.
 -- Assumes nothing.
 use borrow.Author.Needs.{needs}
 use native.Mathlib.Omega.{arith}

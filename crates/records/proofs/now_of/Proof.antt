@@ -1,4 +1,4 @@
--- `store::now_of` meets its contract: the first word, read back as it is.
+-- `records::now_of` meets its contract: the first word, read back as it is.
 -- Assumes nothing.
 use borrow.Author.Needs.{needs}
 use lib.IntN.{pos}

@@ -9,7 +9,8 @@ use lib.IntN.{ℤ}
 use lib.ListN.{length}
 use native.Mathlib.Numerals.{add-one}
 use borrow.Author.Tests.{le-leb, lt-leb}
-use Rattle.ledger.specs.declared.Answer.the-variants.{Accepted, BadTime, BadNumber, AlreadyHeld, Full}
+use Rattle.ledger.specs.declared.Answer.the-variants.{Accepted}
+use Rattle.ledger.specs.declared.Refusal.the-variants.{BadTime, BadNumber, AlreadyHeld, Full}
 use Rattle.grid.specs.Units.{capacity}
 use Rattle.ledger.specs.Refusals.{badStepTime}
 use Rattle.records.specs.Records.{nowOf, recordsOf}
@@ -70,8 +71,8 @@ returns-4 c =
     (passes _ BadNumber _ _ _ (ap not (sym (d .before .in-range .ensures)) ∙ d .if2 .left)
     (passes _ AlreadyHeld _ _ _ (held-is h ∙ c .before .before .if3 .left) (fails _ Full _ _ (le-leb capacity (length (recordsOf (h .before .before .before .before .before .before .before .args .store .now))) (let e = count (c .before) in omega arith)))))
 
-add-t8 : tie.Need-add-t8
-add-t8 c = search needs
+add-after : tie.Need-add-after
+add-after c = search needs
 
 returns-5 : tie.Need-returns-5
 returns-5 c =
@@ -85,4 +86,4 @@ returns-5 c =
     (accepts _ _ (ap Accepted (add-one (c .before .held-of .result) ∙ ap suc (count (c .before))))))))
 
 pub add-answer-spec : {M : Type 1} → statement M
-add-answer-spec = tie.close (tie.spec bad-step-time-requires returns in-range-requires returns-2 has-id-requires returns-3 held-of-requires returns-4 add-t8 returns-5)
+add-answer-spec = tie.close (tie.spec bad-step-time-requires returns in-range-requires returns-2 has-id-requires returns-3 held-of-requires returns-4 add-after returns-5)

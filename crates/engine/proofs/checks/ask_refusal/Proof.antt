@@ -5,7 +5,7 @@ use borrow.Author.Needs.{needs}
 use native.Mathlib.Omega.{arith}
 use mir.Syntax.{w32}
 use lib.IntN.{ℤ}
-use Rattle.ledger.specs.declared.Answer.the-variants.{BadTime, BadNumber}
+use Rattle.ledger.specs.declared.Refusal.the-variants.{BadTime, BadNumber}
 use Rattle.ledger.specs.Refusals.{badAskTime, badAsk}
 use Rattle.records.specs.Records.{nowOf}
 use Rattle.ints.proofs.Machine.{tested₁}

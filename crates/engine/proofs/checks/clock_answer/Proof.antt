@@ -4,7 +4,8 @@ use mathlib.Core.Path.{sym, ap, _∙_}
 use borrow.Author.Needs.{needs}
 use native.Mathlib.Omega.{arith}
 use mir.Syntax.{w32}
-use Rattle.ledger.specs.declared.Answer.the-variants.{Accepted, BadTime}
+use Rattle.ledger.specs.declared.Answer.the-variants.{Accepted}
+use Rattle.ledger.specs.declared.Refusal.the-variants.{BadTime}
 use Rattle.ledger.specs.Refusals.{badStepTime}
 use Rattle.records.specs.Records.{nowOf}
 use Rattle.records.proofs.RecordLaws.{held-records}

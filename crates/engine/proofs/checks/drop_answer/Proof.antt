@@ -9,7 +9,8 @@ use mathlib.Core.Bool.{not}
 use lib.IntN.{ℤ}
 use lib.ListN.{length}
 use Prim.Native.Nat.{ℕ, suc, _-_}
-use Rattle.ledger.specs.declared.Answer.the-variants.{Accepted, BadTime, BadNumber, NotHeld}
+use Rattle.ledger.specs.declared.Answer.the-variants.{Accepted}
+use Rattle.ledger.specs.declared.Refusal.the-variants.{BadTime, BadNumber, NotHeld}
 use Rattle.grid.specs.Reports.{isId}
 use Rattle.ledger.specs.Refusals.{badStepTime}
 use Rattle.records.specs.Records.{nowOf, recordsOf}
@@ -71,8 +72,8 @@ left c =
 one-fewer : (n m : ℕ) → suc n ≡ m → m - 1 ≡ n
 one-fewer n m e = omega arith
 
-sub-t8 : tie.Need-sub-t8
-sub-t8 c = let e = left c in omega arith
+sub-after : tie.Need-sub-after
+sub-after c = let e = left c in omega arith
 
 returns-4 : tie.Need-returns-4
 returns-4 c =
@@ -84,4 +85,4 @@ returns-4 c =
     (passes _ NotHeld _ _ _ (ap not (held-is h) ∙ c .before .if3 .left) (accepts _ _ (ap Accepted (one-fewer _ _ (left c))))))
 
 pub drop-answer-spec : {M : Type 1} → statement M
-drop-answer-spec = tie.close (tie.spec bad-step-time-requires returns is-id-requires returns-2 has-id-requires returns-3 held-of-requires sub-t8 returns-4)
+drop-answer-spec = tie.close (tie.spec bad-step-time-requires returns is-id-requires returns-2 has-id-requires returns-3 held-of-requires sub-after returns-4)

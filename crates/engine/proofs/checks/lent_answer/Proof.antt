@@ -2,7 +2,7 @@
 -- Assumes nothing.
 use mathlib.Core.Path.{refl, sym, ap, _∙_}
 use borrow.Author.Needs.{needs}
-use Rattle.ledger.specs.declared.Answer.the-variants.{WrongLength, Unsound}
+use Rattle.ledger.specs.declared.Refusal.the-variants.{WrongLength, Unsound}
 use mathlib.Core.Bool.{not}
 use Rattle.engine.proofs.CheckLaws.{fails, passes, accepts}
 use Rattle.engine.proofs.checks.lent_answer.Statement.{statement}

@@ -2,7 +2,7 @@
 -- Assumes nothing.
 use mathlib.Core.Path.{refl, sym, ap, _∙_}
 use borrow.Author.Needs.{needs}
-use Rattle.ledger.specs.declared.Answer.the-variants.{WrongLength, BadTime}
+use Rattle.ledger.specs.declared.Refusal.the-variants.{WrongLength, BadTime}
 use mir.Syntax.{w32}
 use Rattle.ints.proofs.Machine.{tested₁}
 use mathlib.Core.Bool.{not}

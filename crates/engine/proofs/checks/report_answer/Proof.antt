@@ -6,7 +6,8 @@ use native.Mathlib.Omega.{arith}
 use mir.Syntax.{w32}
 use mathlib.Core.Bool.{not}
 use lib.IntN.{ℤ}
-use Rattle.ledger.specs.declared.Answer.the-variants.{Accepted, BadTime, BadNumber, NotHeld}
+use Rattle.ledger.specs.declared.Answer.the-variants.{Accepted}
+use Rattle.ledger.specs.declared.Refusal.the-variants.{BadTime, BadNumber, NotHeld}
 use Rattle.ledger.specs.Refusals.{badStepTime}
 use Rattle.records.specs.Records.{nowOf, recordsOf}
 use Rattle.records.specs.Order.{hasId}

@@ -10,7 +10,8 @@ use mathlib.Core.List.{[], _∷_}
 use Prim.Native.Nat.{suc}
 use lib.ListN.{length}
 use Rattle.ledger.specs.Refusals.{check, firstToFail, badReport}
-use Rattle.ledger.specs.declared.Answer.the-variants.{Accepted, BadNumber, AlreadyHeld, Full}
+use Rattle.ledger.specs.declared.Answer.the-variants.{Accepted}
+use Rattle.ledger.specs.declared.Refusal.the-variants.{BadNumber, AlreadyHeld, Full}
 use Rattle.ledger.specs.Answers.{isAccepted}
 use Rattle.records.specs.Records.{recordsOf}
 use Rattle.records.specs.Order.{hasId}

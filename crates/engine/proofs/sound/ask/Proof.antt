@@ -8,7 +8,8 @@ use Rattle.ints.proofs.Machine.{held, tested₂}
 use lib.IntN.{ℤ}
 use mathlib.Core.List.{[], _∷_}
 use Rattle.ledger.specs.Refusals.{check, firstToFail, badAskTime, badAsk}
-use Rattle.ledger.specs.declared.Answer.the-variants.{Accepted, BadTime, BadNumber}
+use Rattle.ledger.specs.declared.Answer.the-variants.{Accepted}
+use Rattle.ledger.specs.declared.Refusal.the-variants.{BadTime, BadNumber}
 use Rattle.records.specs.Records.{nowOf}
 use Rattle.engine.proofs.CheckLaws.{sound-is-store, sound-passed}
 use Rattle.engine.proofs.CallLaws.{ask-refused, ask-passed}

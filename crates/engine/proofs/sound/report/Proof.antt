@@ -9,7 +9,8 @@ use mathlib.Core.Bool.{true}
 use mathlib.Core.List.{[], _∷_}
 use lib.ListN.{length}
 use Rattle.ledger.specs.Refusals.{check, firstToFail, badReport}
-use Rattle.ledger.specs.declared.Answer.the-variants.{Accepted, BadNumber, NotHeld}
+use Rattle.ledger.specs.declared.Answer.the-variants.{Accepted}
+use Rattle.ledger.specs.declared.Refusal.the-variants.{BadNumber, NotHeld}
 use Rattle.ledger.specs.Answers.{isAccepted}
 use Rattle.records.specs.Records.{recordsOf}
 use Rattle.records.specs.Order.{hasId}

@@ -1,4 +1,4 @@
--- `store::soundness::all_sound` meets its contract. The invariant says what is left: the records are sound exactly when those from the i-th on are,
+-- `records::soundness::all_sound` meets its contract. The invariant says what is left: the records are sound exactly when those from the i-th on are,
 -- at the time as the machine reads it back. The measure is what is left of the records.
 -- Assumes nothing.
 use borrow.Author.Needs.{needs}

@@ -1,4 +1,4 @@
--- `store::soundness::all_zero` meets its contract. The invariant says what is left: all words are zero exactly when those from i on are.
+-- `records::soundness::all_zero` meets its contract. The invariant says what is left: all words are zero exactly when those from i on are.
 -- The measure is what is left of the words.
 -- Assumes nothing.
 use borrow.Author.Needs.{needs}

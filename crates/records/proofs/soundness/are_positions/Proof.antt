@@ -1,4 +1,4 @@
--- `store::soundness::are_positions` meets its contract: both numbers are in the range.
+-- `records::soundness::are_positions` meets its contract: both numbers are in the range.
 -- Assumes nothing.
 use mir.Syntax.{w32}
 use Rattle.ints.proofs.Machine.{both, neither, tested₁}

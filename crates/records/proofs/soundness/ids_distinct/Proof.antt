@@ -1,4 +1,4 @@
--- `store::soundness::ids_distinct` meets its contract. The invariant says what is left: the ids differ exactly when none of the records left is
+-- `records::soundness::ids_distinct` meets its contract. The invariant says what is left: the ids differ exactly when none of the records left is
 -- marked and the ids of those left differ. The measure is what is left of the records.
 -- Assumes nothing.
 use borrow.Author.Needs.{needs}

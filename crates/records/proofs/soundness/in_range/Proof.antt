@@ -1,4 +1,4 @@
--- `store::soundness::in_range` meets its contract: its three tests are those of `inRange`.
+-- `records::soundness::in_range` meets its contract: its three tests are those of `inRange`.
 -- Assumes nothing.
 use mir.Syntax.{w32}
 use Rattle.ints.proofs.Machine.{both, neither, tested₁, tested₂}

@@ -1,4 +1,4 @@
--- `store::soundness::index_of` meets its contract: an id is not below 0.
+-- `records::soundness::index_of` meets its contract: an id is not below 0.
 -- Assumes nothing.
 use native.Mathlib.Omega.{arith}
 use Rattle.ints.proofs.Parts.{signed}

@@ -1,4 +1,4 @@
--- `store::soundness::is_between` meets its contract: the two tests are the definition's.
+-- `records::soundness::is_between` meets its contract: the two tests are the definition's.
 -- Assumes nothing.
 use Rattle.ints.proofs.Machine.{reads}
 use Rattle.records.proofs.soundness.is_between.Statement.{statement}

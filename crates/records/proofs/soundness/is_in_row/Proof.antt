@@ -1,4 +1,4 @@
--- `store::soundness::is_in_row` meets its contract: slot and curve number lie in the table, and the speeds fit 16 bits.
+-- `records::soundness::is_in_row` meets its contract: slot and curve number lie in the table, and the speeds fit 16 bits.
 -- Assumes nothing.
 use mathlib.Core.Path.{_≡_, _∙_, ap₂}
 use native.Mathlib.Omega.{arith}

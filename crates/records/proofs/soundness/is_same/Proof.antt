@@ -1,4 +1,4 @@
--- `store::soundness::is_same` meets its contract: neither number is below the other.
+-- `records::soundness::is_same` meets its contract: neither number is below the other.
 -- Assumes nothing.
 use Rattle.ints.proofs.Machine.{reads}
 use Rattle.ints.specs.Whole.{eqZ}

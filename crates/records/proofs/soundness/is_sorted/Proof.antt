@@ -1,4 +1,4 @@
--- `store::soundness::is_sorted` meets its contract. The invariant says what is left: the records are in order exactly when those from the one
+-- `records::soundness::is_sorted` meets its contract. The invariant says what is left: the records are in order exactly when those from the one
 -- before i on are. The measure is what is left of the records.
 -- Assumes nothing.
 use borrow.Author.Needs.{needs}

@@ -1,4 +1,4 @@
--- `store::soundness::is_sound` meets its contract, for slices of every length: the table is read only where its length is right, its rows only
+-- `records::soundness::is_sound` meets its contract, for slices of every length: the table is read only where its length is right, its rows only
 -- where the store is sound.
 -- Assumes nothing.
 use mathlib.Core.Path.{_≡_, _∙_, ap, ap₂, sym}

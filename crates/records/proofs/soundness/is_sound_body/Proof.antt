@@ -1,4 +1,4 @@
--- `store::soundness::is_sound_body` meets its contract: its four tests are those of a sound store after record 0.
+-- `records::soundness::is_sound_body` meets its contract: its four tests are those of a sound store after record 0.
 -- Assumes nothing.
 use mathlib.Core.Path.{_≡_, _∙_, ap, ap₂, sym}
 use mathlib.Core.Bool.{Bool, true, _&&_}

@@ -1,4 +1,4 @@
--- `store::soundness::is_sound_header` meets its contract: its three tests are those of `isSoundHeader`.
+-- `records::soundness::is_sound_header` meets its contract: its three tests are those of `isSoundHeader`.
 -- Assumes nothing.
 use mathlib.Core.Path.{_≡_, _∙_, sym}
 use mathlib.Core.Bool.{true}

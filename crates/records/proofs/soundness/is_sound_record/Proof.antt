@@ -1,4 +1,4 @@
--- `store::soundness::is_sound_record` meets its contract: its three tests are those of `isSoundRecord`.
+-- `records::soundness::is_sound_record` meets its contract: its three tests are those of `isSoundRecord`.
 -- Assumes nothing.
 use mathlib.Core.Path.{_≡_, _∙_, sym}
 use mathlib.Core.Bool.{true}

@@ -1,4 +1,4 @@
--- `store::soundness::is_sound_store` meets its contract: the length, record 0, and then the rest, which is read only where both are right.
+-- `records::soundness::is_sound_store` meets its contract: the length, record 0, and then the rest, which is read only where both are right.
 -- Assumes nothing.
 use mathlib.Core.Path.{_≡_, _∙_, sym}
 use mathlib.Core.Bool.{true}

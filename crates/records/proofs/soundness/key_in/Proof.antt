@@ -1,4 +1,4 @@
--- `store::soundness::key_in` meets its contract: the report is small, the cell is on the grid, and slot and curve number make a key of the three slots.
+-- `records::soundness::key_in` meets its contract: the report is small, the cell is on the grid, and slot and curve number make a key of the three slots.
 -- Assumes nothing.
 use mathlib.Core.Path.{_≡_, _∙_, ap, ap₂}
 use Prim.Native.Nat.{_+_, _*_, _<_}

@@ -1,4 +1,4 @@
--- `store::soundness::key_is_right` meets its contract: the phase of the key is not before that of t, and the key is the one in that phase.
+-- `records::soundness::key_is_right` meets its contract: the phase of the key is not before that of t, and the key is the one in that phase.
 -- Assumes nothing.
 use mathlib.Core.Path.{_≡_, _∙_, ap, ap₂, sym}
 use mathlib.Core.Bool.{Bool, true, false}

@@ -1,4 +1,4 @@
--- `store::soundness::narrow` meets its contract: a speed fits 16 bits.
+-- `records::soundness::narrow` meets its contract: a speed fits 16 bits.
 -- Assumes nothing.
 use borrow.Author.Needs.{needs}
 use mathlib.Core.Path.{_∙_}

@@ -1,4 +1,4 @@
--- `store::soundness::number_of_key` meets its contract: what is left of the number after division by 1,024, and 0 below 0.
+-- `records::soundness::number_of_key` meets its contract: what is left of the number after division by 1,024, and 0 below 0.
 -- Assumes nothing.
 use native.Mathlib.Omega.{arith}
 use Rattle.ints.proofs.Parts.{signed}

@@ -1,4 +1,4 @@
--- `store::soundness::phase_at` meets its contract: the time is read back as it is.
+-- `records::soundness::phase_at` meets its contract: the time is read back as it is.
 -- Assumes nothing.
 use mathlib.Core.Path.{_∙_, ap}
 use mir.Syntax.{w32, w64}

@@ -1,4 +1,4 @@
--- `store::soundness::phase_of_key` meets its contract: the live phase with the slot of the key.
+-- `records::soundness::phase_of_key` meets its contract: the live phase with the slot of the key.
 -- Assumes nothing.
 use mathlib.Core.Path.{_∙_, ap}
 use mir.Syntax.{w32}

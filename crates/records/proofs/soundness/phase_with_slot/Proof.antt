@@ -1,4 +1,4 @@
--- `store::soundness::phase_with_slot` meets its contract: each slot has one of three phases in a row, so its phase lies as far back as the slots differ.
+-- `records::soundness::phase_with_slot` meets its contract: each slot has one of three phases in a row, so its phase lies as far back as the slots differ.
 -- Assumes nothing.
 use mathlib.Core.Path.{sym}
 use native.Mathlib.Omega.{arith}

@@ -1,4 +1,4 @@
--- `store::soundness::precedes` meets its contract: one key is below the other, or the two are the same and the ids decide.
+-- `records::soundness::precedes` meets its contract: one key is below the other, or the two are the same and the ids decide.
 -- Assumes nothing.
 use mathlib.Core.Path.{_≡_, sym, ap, ap₂, _∙_}
 use mathlib.Core.Bool.{true, false}

@@ -1,4 +1,4 @@
--- `store::soundness::slot_of_key` meets its contract: the number divided by 1,024, and 0 below 0.
+-- `records::soundness::slot_of_key` meets its contract: the number divided by 1,024, and 0 below 0.
 -- Assumes nothing.
 use native.Mathlib.Omega.{arith}
 use Rattle.ints.proofs.Parts.{signed}

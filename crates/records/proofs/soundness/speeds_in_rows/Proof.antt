@@ -1,4 +1,4 @@
--- `store::soundness::speeds_in_rows` meets its contract. The invariant says what is left: the speeds lie in their rows exactly when those of the
+-- `records::soundness::speeds_in_rows` meets its contract. The invariant says what is left: the speeds lie in their rows exactly when those of the
 -- records from the i-th on do. The measure is what is left of the records.
 -- Assumes nothing.
 use borrow.Author.Needs.{needs}

@@ -1,4 +1,4 @@
--- `replay::answering::answer_add` meets its contract.
+-- `session::answering::answer_add` meets its contract.
 -- Assumes nothing.
 use Rattle.engine.specs.Index.{addOut}
 use Rattle.engine.specs.Gives.{Gives}

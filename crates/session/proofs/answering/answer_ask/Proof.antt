@@ -1,4 +1,4 @@
--- `replay::answering::answer_ask` meets its contract.
+-- `session::answering::answer_ask` meets its contract.
 -- Assumes nothing.
 use mathlib.Core.Path.{sym}
 use native.Mathlib.Omega.{arith}

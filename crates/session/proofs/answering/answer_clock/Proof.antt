@@ -1,4 +1,4 @@
--- `replay::answering::answer_clock` meets its contract.
+-- `session::answering::answer_clock` meets its contract.
 -- Assumes nothing.
 use mir.Syntax.{w32}
 use Rattle.ints.proofs.Machine.{held}

@@ -1,4 +1,4 @@
--- `replay::answering::answer_line` meets its contract.
+-- `session::answering::answer_line` meets its contract.
 -- Assumes nothing.
 use mathlib.Core.Path.{sym, subst}
 use native.Mathlib.Omega.{arith}

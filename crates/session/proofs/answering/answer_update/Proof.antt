@@ -1,4 +1,4 @@
--- `replay::answering::answer_update` meets its contract.
+-- `session::answering::answer_update` meets its contract.
 -- Assumes nothing.
 use Rattle.engine.specs.Index.{reportOut}
 use Rattle.engine.specs.Gives.{Gives}

@@ -1,4 +1,4 @@
--- `replay::answering::tell` meets its contract.
+-- `session::answering::tell` meets its contract.
 -- Assumes nothing.
 use borrow.Author.Needs.{needs}
 use Rattle.session.proofs.answering.tell.Statement.{statement}

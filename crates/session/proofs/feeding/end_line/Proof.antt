@@ -1,4 +1,4 @@
--- `replay::feeding::end_line` meets its contract.
+-- `session::feeding::end_line` meets its contract.
 -- Assumes nothing.
 use mathlib.Core.Path.{refl, sym}
 use native.Mathlib.Omega.{arith}

@@ -1,4 +1,4 @@
--- `replay::feeding::feed` meets its contract.
+-- `session::feeding::feed` meets its contract.
 -- Assumes nothing.
 use mathlib.Core.Path.{_≡_, refl, _∙_}
 use Prim.Native.Nat.{_≤_, _-_}

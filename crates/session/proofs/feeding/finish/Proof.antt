@@ -1,4 +1,4 @@
--- `replay::feeding::finish` meets its contract.
+-- `session::feeding::finish` meets its contract.
 -- Assumes nothing.
 use native.Mathlib.Omega.{arith}
 use Rattle.session.proofs.FeedLaws.{ends-empty, ends-line}

@@ -1,4 +1,4 @@
--- `replay::feeding::hold` meets its contract.
+-- `session::feeding::hold` meets its contract.
 -- Assumes nothing.
 use Rattle.session.proofs.FeedLaws.{held-full, held-more}
 use native.Mathlib.Omega.{arith}

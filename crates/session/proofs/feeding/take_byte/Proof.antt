@@ -1,4 +1,4 @@
--- `replay::feeding::take_byte` meets its contract.
+-- `session::feeding::take_byte` meets its contract.
 -- Assumes nothing.
 use native.Mathlib.Omega.{arith}
 use Rattle.session.proofs.FeedLaws.{newline-taken, other-taken}
