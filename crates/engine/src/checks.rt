@@ -17,20 +17,17 @@ ghost use Rattle.ledger.specs.Refusals.{check, firstToFail, badStepTime, badAsk
 ghost use Rattle.ledger.specs.declared.Answer.the-variants.{Accepted};
 ghost use Rattle.ledger.specs.declared.Refusal.the-variants.{BadTime, BadNumber};
 ghost use Rattle.engine.specs.Index.{wrongLength, lentChecks, clockChecks, addChecks, reportChecks, dropChecks, recordsAfterStep, openAnswer};
+use grid::LAST_ID;
+use grid::LAST_POSITION;
+use grid::LAST_TIME;
 use grid::Range;
 use grid::Rect;
 use grid::Report;
 use ledger::Answer;
 use ledger::Refusal;
 
-// The last time, in seconds.
-const LAST_TIME: i32 = 999999999;
-
-// The last id.
-const LAST_ID: i32 = 65535;
-
-// The greatest position of a rectangle's corner, in centimetres.
-const LAST_POSITION: i64 = 8388607;
+// A corner of a rectangle is compared in 64 bits.
+const LAST_CORNER: i64 = LAST_POSITION as i64;
 
 // How far before and after now an ask may lie, in seconds.
 const ASK_BEFORE: i64 = 3600;
@@ -108,7 +105,7 @@ fn bad_ask_time(store: &[i32], asked: i32) -> bool
 fn is_position(z: i64) -> bool
     ensures { λ r. ⌜ r ≡ isPosition z ⌝ }
 {
-    0 <= z && z <= LAST_POSITION
+    0 <= z && z <= LAST_CORNER
 }
 
 fn in_sea(range: Range) -> bool

@@ -20,10 +20,18 @@ pub const SIDE: usize = 32;
 const LAST: usize = SIDE - 1;
 
 // Cells on the grid.
-pub const CELLS: usize = 1024;
+pub const CELLS: usize = SIDE * SIDE;
 
 // The width and height of a cell, in centimetres.
 pub const CELL_SIZE: usize = 262144;
+
+// The greatest position in a report, and of a rectangle's corner, in centimetres: where the last cell ends.
+pub const LAST_POSITION: i32 = (SIDE * CELL_SIZE - 1) as i32;
+
+// The last id, and the last time, in seconds.
+pub const LAST_ID: i32 = 65535;
+
+pub const LAST_TIME: i32 = 999999999;
 
 pub struct Cell {
     pub column: usize,

@@ -7,13 +7,13 @@ use grid::Report;
 
 pub mod soundness;
 
-// The words of a record, and of the store.
-pub const RECORD_WORDS: usize = 7;
-
-pub const STORE_WORDS: usize = 7175;
-
 // The most floats held.
 pub const CAPACITY: usize = 1024;
+
+// The words of a record, and of the store: record 0, then one for each float.
+pub const RECORD_WORDS: usize = 7;
+
+pub const STORE_WORDS: usize = RECORD_WORDS * (CAPACITY + 1);
 
 // A held float: its key, which is slot x 1,024 + curve number, and its report.
 pub struct Record {

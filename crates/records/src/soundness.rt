@@ -13,32 +13,27 @@ ghost use Rattle.rows.specs.Table.{tableWords, rowAt};
 ghost use Rattle.records.specs.Records.{recordWords, storeWords, nowOf, heldOf, readRecords, recordsOf};
 ghost use Rattle.records.specs.Order.{keyIn, slotOfKey, numberOfKey, phaseWithSlot, phaseOfKey, precedes, isSorted};
 ghost use Rattle.records.specs.Soundness.{allZero, keyIsRight, isSoundRecord, allSound, idsDistinct, isSoundHeader, isSoundStore, speedsInRows, isSound, isRanged, allRanged};
+use crate::CAPACITY;
 use crate::RECORD_WORDS;
 use crate::Record;
 use crate::STORE_WORDS;
 use crate::held_of;
+use grid::LAST_ID;
+use grid::LAST_POSITION;
+use grid::LAST_TIME;
 use grid::Report;
 use rows::Row;
-
-// The last id.
-const LAST_ID: i32 = 65535;
-
-// The greatest position, in centimetres.
-const LAST_POSITION: i32 = 8388607;
 
 // The least and the greatest speed along an axis, in centimetres per second: a row's limit.
 const GREATEST_SPEED: i32 = Row::LIMIT as i32;
 
 const LEAST_SPEED: i32 = -GREATEST_SPEED;
 
-// The last time, in seconds.
-const LAST_TIME: i32 = 999999999;
-
-// The most floats held.
-const MOST_HELD: i32 = 1024;
+// The most floats held, as a word.
+const MOST_HELD: i32 = CAPACITY as i32;
 
 // The marks for ids, from 0 to the last.
-const MARKS: usize = 65536;
+const MARKS: usize = (LAST_ID + 1) as usize;
 
 pub fn is_same(a: i32, b: i32) -> bool
     ensures { λ r. ⌜ r ≡ eqZ a b ⌝ }

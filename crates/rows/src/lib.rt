@@ -19,9 +19,9 @@ pub const SLOTS: usize = 3;
 // The numbers of a row, of a slot's third, and of the table.
 pub const ROW_WORDS: usize = 4;
 
-pub const SLOT_WORDS: usize = 4096;
+pub const SLOT_WORDS: usize = ROW_WORDS * grid::CELLS;
 
-pub const TABLE_WORDS: usize = 12288;
+pub const TABLE_WORDS: usize = SLOTS * SLOT_WORDS;
 
 // The phase in which a time lies.
 pub fn phase_of(t: i64) -> usize

@@ -4,7 +4,7 @@ ghost use mathlib.Core.Bool.{true};
 ghost use mathlib.Core.List.{_++_};
 ghost use Prim.Native.Nat.{_<_, _≤_, _+_, _-_, _*_};
 ghost use lib.IntN.{pos};
-ghost use lib.ListN.{length, take, drop, set, replicate};
+ghost use lib.ListN.{length, take, drop, replicate};
 ghost use Rattle.grid.specs.Units.{capacity};
 ghost use Rattle.grid.specs.Curve.{IsCurve};
 ghost use Rattle.grid.specs.Reports.{isTime, inRange};
@@ -17,6 +17,8 @@ ghost use Rattle.records.specs.Places.{HasWords};
 ghost use Rattle.store.specs.Walks.{placeOf, indexOf, KeptFirst, Taken, PlaceAsked};
 use super::opening::clear;
 use super::sorting::put_all;
+use super::writing::set_held;
+use super::writing::write_record;
 use grid::Report;
 use records::RECORD_WORDS;
 use records::Record;
@@ -72,28 +74,6 @@ pub fn has_id(store: &[i32], id: i32) -> bool
     index_of(store, id) < held_of(store)
 }
 
-// Writes a record over the seven words at k.
-pub fn write_record(words: &mut [i32], k: usize, r: Record)
-    requires { ⌜ k + recordWords ≤ length (now words) ⌝ }
-    ensures { λ u. ⌜ now (words .exit) ≡ take k (now (words .entry)) ++ (wordsOf r ++ drop (k + recordWords) (now (words .entry))) ⌝ }
-{
-    let report = r.report;
-    let key = r.key;
-    let id = report.id;
-    let t = report.t;
-    let x = report.x;
-    let y = report.y;
-    let vx = report.vx;
-    let vy = report.vy;
-    words[k] = key;
-    words[k + 1] = id;
-    words[k + 2] = t;
-    words[k + 3] = x;
-    words[k + 4] = y;
-    words[k + 5] = vx;
-    words[k + 6] = vy;
-}
-
 // Moves every word but the last seven up by seven places; the first seven stay too.
 fn move_up(words: &mut [i32])
     requires { ⌜ recordWords ≤ length (now words) ⌝ }
@@ -146,15 +126,6 @@ fn close_up(words: &mut [i32])
     let end = words.len() - RECORD_WORDS;
     move_down(words);
     write_record(words, end, zero_record());
-}
-
-// Sets the count of floats held, in record 0.
-pub fn set_held(store: &mut [i32], n: usize)
-    requires { ⌜ (1 < length (now store)) × (n ≤ capacity) ⌝ }
-    ensures { λ u. ⌜ now (store .exit) ≡ set (now (store .entry)) 1 (pos n) ⌝ }
-{
-    let w = n as i32;
-    store[1] = w;
 }
 
 // Puts a record at its place: the records after it move up.

@@ -3,3 +3,4 @@
 pub mod changes;
 pub mod opening;
 pub mod sorting;
+pub mod writing;

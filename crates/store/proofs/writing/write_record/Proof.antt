@@ -1,11 +1,11 @@
--- `store::changes::write_record` meets its contract: seven words in a row.
+-- `store::writing::write_record` meets its contract: seven words in a row.
 -- Assumes nothing.
 use borrow.Author.Needs.{needs}
 use native.Mathlib.Omega.{arith}
 use lib.ListN.{length-set}
 use Rattle.store.proofs.ChangeLaws.{write-words}
-use Rattle.store.proofs.changes.write_record.Statement.{statement}
-use Rattle.store.proofs.changes.write_record.Tie as tie
+use Rattle.store.proofs.writing.write_record.Statement.{statement}
+use Rattle.store.proofs.writing.write_record.Tie as tie
 
 mul-key : tie.Need-mul-key
 mul-key c = search needs

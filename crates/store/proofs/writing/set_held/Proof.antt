@@ -1,4 +1,4 @@
--- `store::changes::set_held` meets its contract: a count of at most 1,024 is read back as it is.
+-- `store::writing::set_held` meets its contract: a count of at most 1,024 is read back as it is.
 -- Assumes nothing.
 use borrow.Author.Needs.{needs}
 use native.Mathlib.Omega.{arith}
@@ -7,8 +7,8 @@ use mathlib.Core.Path.{ap}
 use lib.ListN.{set}
 use mir.Syntax.{w32}
 use Rattle.ints.proofs.Machine.{held}
-use Rattle.store.proofs.changes.set_held.Statement.{statement}
-use Rattle.store.proofs.changes.set_held.Tie as tie
+use Rattle.store.proofs.writing.set_held.Statement.{statement}
+use Rattle.store.proofs.writing.set_held.Tie as tie
 
 cast-w : tie.Need-cast-w
 cast-w c = search needs

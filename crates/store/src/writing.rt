@@ -1,0 +1,40 @@
+// Words of a store written: a record, and the count of floats held.
+ghost use mathlib.Core.Path.{_≡_};
+ghost use mathlib.Core.List.{_++_};
+ghost use Prim.Native.Nat.{_<_, _≤_, _+_};
+ghost use lib.IntN.{pos};
+ghost use lib.ListN.{length, take, drop, set};
+ghost use Rattle.grid.specs.Units.{capacity};
+ghost use Rattle.records.specs.Records.{recordWords, wordsOf};
+use records::Record;
+
+// Writes a record over the seven words at k.
+pub fn write_record(words: &mut [i32], k: usize, r: Record)
+    requires { ⌜ k + recordWords ≤ length (now words) ⌝ }
+    ensures { λ u. ⌜ now (words .exit) ≡ take k (now (words .entry)) ++ (wordsOf r ++ drop (k + recordWords) (now (words .entry))) ⌝ }
+{
+    let report = r.report;
+    let key = r.key;
+    let id = report.id;
+    let t = report.t;
+    let x = report.x;
+    let y = report.y;
+    let vx = report.vx;
+    let vy = report.vy;
+    words[k] = key;
+    words[k + 1] = id;
+    words[k + 2] = t;
+    words[k + 3] = x;
+    words[k + 4] = y;
+    words[k + 5] = vx;
+    words[k + 6] = vy;
+}
+
+// Sets the count of floats held, in record 0.
+pub fn set_held(store: &mut [i32], n: usize)
+    requires { ⌜ (1 < length (now store)) × (n ≤ capacity) ⌝ }
+    ensures { λ u. ⌜ now (store .exit) ≡ set (now (store .entry)) 1 (pos n) ⌝ }
+{
+    let w = n as i32;
+    store[1] = w;
+}
