@@ -50,6 +50,12 @@ pub struct Rect {
     pub y: Range,
 }
 
+// What an ask wants: document 01's timeslice query, the floats predicted inside a rectangle at a time (seconds).
+pub struct Query {
+    pub rect: Rect,
+    pub time: i32,
+}
+
 // What a float sent: at time t it was at (x, y) and drifted at (vx, vy).
 pub struct Report {
     pub id: i32,

@@ -1,6 +1,32 @@
-// What a call gives back, in the index and in the plain ledger alike. The ledger itself is definitions only: see specs/.
+// The calls after open and what a call gives back, in the index and in the plain ledger alike. The ledger itself is definitions only: see specs/.
 ghost use mathlib.Core.Path.{_≡_};
 ghost use Rattle.ledger.specs.Answers.{refusalNumber, refusalValue};
+use grid::Query;
+use grid::Report;
+
+// A change of the floats held.
+pub enum Change {
+    // A float that is not held sends its first report.
+    Add(Report),
+    // A held float sends a new report.
+    Report(Report),
+    // A held float is taken out: its id, the time.
+    Drop(i32, i32),
+}
+
+// An ask: the method by which cells are chosen, and the query.
+pub struct Ask {
+    pub method: i32,
+    pub query: Query,
+}
+
+// A call after open, with its numbers.
+pub enum Call {
+    // The clock goes to a time.
+    Clock(i32),
+    Change(Change),
+    Ask(Ask),
+}
 
 pub enum Answer {
     // An accepted open, clock, add, report or drop: the floats held.
