@@ -1,15 +1,21 @@
 //! The calls that are measured.
 
-use crate::fleet::{fleet, float, time_in, Words};
+use crate::fleet::{fleet, float, time_in};
 use crate::measure::{Bench, Times};
 use crate::page::SOUNDNESS;
 use crate::twin;
-use float_index::{Rectangle, Reply};
+use buffers::{Words, HELD, NOW, WIDTH};
+use float_index::{Rectangle, Reply, Report, LAST_POSITION, MOST_HELD};
 
-const FLEETS: [usize; 3] = [10, 100, 1_024];
+const FLEETS: [usize; 3] = [10, 100, MOST_HELD];
 const METHODS: [&str; 4] = ["naive", "semi-naive", "iterative", "optimal"];
-/// The sides of the asked rectangles; the last is the whole sea.
-const SIDES: [i32; 3] = [262_144, 1_000_000, 8_388_608];
+const WHOLE_SEA: i32 = LAST_POSITION + 1;
+/// The sides of the asked rectangles.
+const SIDES: [i32; 3] = [WIDTH, 1_000_000, WHOLE_SEA];
+const HOUR: i32 = 3_600;
+
+/// A call that changes the buffers, by its numbers.
+type Change<N> = fn(&mut [i32], &mut [i16], N) -> Reply;
 
 impl Bench {
     /// Every call, in the order of the table.
@@ -23,43 +29,39 @@ impl Bench {
         all.extend(FLEETS.map(|floats| self.add(floats)));
         all.extend(fleets.iter().map(|words| self.report(words)));
         all.extend(fleets.iter().map(|words| self.drop(words)));
-        for method in 0..4 {
+        for (method, name) in METHODS.into_iter().enumerate() {
             for side in SIDES {
-                all.extend(fleets.iter().map(|words| self.ask(words, method, side)));
+                all.extend(fleets.iter().map(|words| self.ask(words, method as i32, name, side)));
             }
         }
         all
     }
 
+    /// The same change by the index and by the twin.
+    fn change<N: Copy>(&self, name: &str, base: &Words, n: N, acts: [Change<N>; 2]) -> Times {
+        let [index, twin] = acts.map(|act| {
+            move |words: &mut Words, _: &mut [u16]| act(&mut words.store, &mut words.table, n)
+        });
+        self.times(name.into(), base, &index, &twin, None)
+    }
+
     fn open(&self) -> Times {
-        let base = fleet(1_024, 3);
-        let index = |w: &mut Words, _: &mut [u16]| float_index::open(&mut w.store, &mut w.table, 5);
-        let twin = |w: &mut Words, _: &mut [u16]| twin::open(&mut w.store, &mut w.table, 5);
-        self.times("open".into(), &base, &index, &twin, None)
+        self.change("open", &fleet(MOST_HELD, 3), 5, [float_index::open, twin::open])
     }
 
     fn soundness(&self, base: &Words) -> Times {
-        let reply = |sound: bool| Reply {
-            number: usize::from(!sound),
-            value: 0,
-            cells: 0,
-            useful: 0,
-            rounds: 0,
-        };
+        let reply = |sound: bool| Reply { number: usize::from(!sound), ..Reply::default() };
         let index = |w: &mut Words, _: &mut [u16]| reply(float_index::is_sound(&w.store, &w.table));
         let twin = |w: &mut Words, _: &mut [u16]| reply(twin::is_sound(&w.store, &w.table));
         self.times(SOUNDNESS.into(), base, &index, &twin, None)
     }
 
     fn clock(&self, name: &str, base: &Words, t: i32) -> Times {
-        let index =
-            move |w: &mut Words, _: &mut [u16]| float_index::clock(&mut w.store, &mut w.table, t);
-        let twin = move |w: &mut Words, _: &mut [u16]| twin::clock(&mut w.store, &mut w.table, t);
-        self.times(name.into(), base, &index, &twin, None)
+        self.change(name, base, t, [float_index::clock, twin::clock])
     }
 
     fn same_phase(&self, base: &Words) -> Times {
-        self.clock("clock, same phase", base, base.store[0] + 1)
+        self.clock("clock, same phase", base, base.store[NOW] + 1)
     }
 
     fn no_float_moves(&self, floats: usize) -> Times {
@@ -75,58 +77,44 @@ impl Bench {
     }
 
     fn add(&self, floats: usize) -> Times {
-        let base = fleet(floats.min(1_023), 3);
+        let base = fleet(floats.min(MOST_HELD - 1), 3);
         let new = float(5_000, time_in(2));
-        let index =
-            move |w: &mut Words, _: &mut [u16]| float_index::add(&mut w.store, &mut w.table, new);
-        let twin = move |w: &mut Words, _: &mut [u16]| twin::add(&mut w.store, &mut w.table, new);
-        self.times("add".into(), &base, &index, &twin, None)
+        self.change("add", &base, new, [float_index::add, twin::add])
     }
 
     fn report(&self, base: &Words) -> Times {
-        let middle = base.store[1] as usize / 2;
-        let mut new = float(5_000, time_in(2));
-        new.id = float(middle, 0).id;
-        let index = move |w: &mut Words, _: &mut [u16]| {
-            float_index::report(&mut w.store, &mut w.table, new)
-        };
-        let twin =
-            move |w: &mut Words, _: &mut [u16]| twin::report(&mut w.store, &mut w.table, new);
-        self.times("report".into(), base, &index, &twin, None)
+        let new = Report { id: middle_id(base), ..float(5_000, time_in(2)) };
+        self.change("report", base, new, [float_index::report, twin::report])
     }
 
     fn drop(&self, base: &Words) -> Times {
-        let id = float(base.store[1] as usize / 2, 0).id;
-        let t = time_in(2);
-        let index = move |w: &mut Words, _: &mut [u16]| {
-            float_index::drop(&mut w.store, &mut w.table, id, t)
-        };
-        let twin =
-            move |w: &mut Words, _: &mut [u16]| twin::drop(&mut w.store, &mut w.table, id, t);
-        self.times("drop".into(), base, &index, &twin, None)
+        let index: Change<(i32, i32)> = |s, w, (id, t)| float_index::drop(s, w, id, t);
+        let twin: Change<(i32, i32)> = |s, w, (id, t)| twin::drop(s, w, id, t);
+        self.change("drop", base, (middle_id(base), time_in(2)), [index, twin])
     }
 
     /// An ask for the middle of the sea, an hour ahead.
-    fn ask(&self, base: &Words, method: usize, side: i32) -> Times {
-        let low = 4_194_304 - side / 2;
+    fn ask(&self, base: &Words, method: i32, name: &str, side: i32) -> Times {
+        let low = (WHOLE_SEA - side) / 2;
         let high = low + side - 1;
-        let q = Rectangle {
-            low_x: low,
-            low_y: low,
-            high_x: high,
-            high_y: high,
-        };
-        let (m, t) = (method as i32, base.store[0] + 3_600);
+        let q = Rectangle { low_x: low, low_y: low, high_x: high, high_y: high };
+        let t = base.store[NOW] + HOUR;
         let index = move |w: &mut Words, list: &mut [u16]| {
-            float_index::ask(&w.store, &w.table, list, m, t, q)
+            float_index::ask(&w.store, &w.table, list, method, t, q)
         };
-        let twin =
-            move |w: &mut Words, list: &mut [u16]| twin::ask(&w.store, &w.table, list, m, t, q);
+        let twin = move |w: &mut Words, list: &mut [u16]| {
+            twin::ask(&w.store, &w.table, list, method, t, q)
+        };
         let scan = move |w: &Words, list: &mut [u16]| twin::scan(&w.store, list, t, q);
         let name = match side {
-            8_388_608 => format!("ask, {}, whole sea", METHODS[method]),
-            _ => format!("ask, {}, side {side}", METHODS[method]),
+            WHOLE_SEA => format!("ask, {name}, whole sea"),
+            _ => format!("ask, {name}, side {side}"),
         };
         self.times(name, base, &index, &twin, Some(&scan))
     }
+}
+
+/// The id of the float in the middle of a fleet.
+fn middle_id(base: &Words) -> i32 {
+    float(base.store[HELD] as usize / 2, 0).id
 }

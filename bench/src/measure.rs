@@ -1,8 +1,8 @@
 //! Times of one call: the index's, the twin's and the others' in turn, so that
 //! a busy machine disturbs all of them alike.
 
-use crate::fleet::Words;
-use float_index::Reply;
+use buffers::{Words, HELD};
+use float_index::{Reply, MOST_HELD};
 use std::hint::black_box;
 use std::time::Instant;
 
@@ -73,7 +73,7 @@ impl Bench {
     ) -> Times {
         check_same(&call, base, index, twin, scan);
         let mut words = base.clone();
-        let mut list = vec![0; 1_024];
+        let mut list = vec![0; MOST_HELD];
         let mut all: [Vec<f64>; 5] = Default::default();
         for _ in 0..self.runs {
             for (act, times) in [(index, 0), (twin, 1)] {
@@ -88,7 +88,7 @@ impl Bench {
         let [index, twin, pass, exact_pass, scanned] = all.map(median);
         Times {
             call,
-            floats: base.store[1] as usize,
+            floats: base.store[HELD] as usize,
             index,
             twin,
             pass,
@@ -101,14 +101,14 @@ impl Bench {
 fn check_same(call: &str, base: &Words, index: Act, twin: Act, scan: Option<Scan>) {
     let results = [index, twin].map(|act| {
         let mut words = base.clone();
-        let mut list = vec![0; 1_024];
+        let mut list = vec![0; MOST_HELD];
         let reply = act(&mut words, &mut list);
         (reply, words, list)
     });
     assert!(results[0] == results[1], "{call}: the twin differs");
     assert!(results[0].0.is_accepted(), "{call}: refused");
     if let Some(scan) = scan {
-        let mut list = vec![0; 1_024];
+        let mut list = vec![0; MOST_HELD];
         let listed = scan(base, &mut list);
         assert!(listed == results[0].0.value, "{call}: the scan differs");
         assert!(list == results[0].2, "{call}: the scan differs");

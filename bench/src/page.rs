@@ -34,20 +34,10 @@ and the twin's alike. A ratio in bold misses its goal.
 pub fn page(all: &[Times], runs: usize) -> String {
     let mut page = String::from(HEAD);
     let cores = std::thread::available_parallelism().map_or(1, usize::from);
-    let machine = format!(
-        "{} on {}, {cores} cores",
-        std::env::consts::ARCH,
-        std::env::consts::OS
-    );
+    let machine = format!("{} on {}, {cores} cores", std::env::consts::ARCH, std::env::consts::OS);
     let _ = writeln!(page, "\nMedians of {runs} runs. Machine: {machine}.");
-    if let Some(Times {
-        pass, exact_pass, ..
-    }) = all.first()
-    {
-        let _ = writeln!(
-            page,
-            "(b) takes {pass:.1}, the exact sum {exact_pass:.1}.\n"
-        );
+    if let Some(Times { pass, exact_pass, .. }) = all.first() {
+        let _ = writeln!(page, "(b) takes {pass:.1}, the exact sum {exact_pass:.1}.\n");
     }
     page += "| call | floats | index | (a) twin | index / (a) | index / (b) | (c) scan | index / (c) |\n";
     page += "|---|---:|---:|---:|---:|---:|---:|---:|\n";
@@ -109,21 +99,13 @@ fn goal_twin(all: &[Times]) -> String {
 }
 
 fn goal_pass(all: &[Times]) -> String {
-    let ratios = all
-        .iter()
-        .map(|t| (t.index / t.pass, goal_for_pass(t), name(t)));
+    let ratios = all.iter().map(|t| (t.index / t.pass, goal_for_pass(t), name(t)));
     let missed = ratios.filter(|(ratio, goal, _)| ratio > goal);
     let missed = missed.map(|(ratio, _, name)| (ratio, name));
     let line = goal("Soundness test at most 3 times (b)", missed.collect());
     let tests = all.iter().filter(|t| t.call == SOUNDNESS);
     let exact: Vec<String> = tests
-        .map(|t| {
-            format!(
-                "{:.1} times with {} floats",
-                t.index / t.exact_pass,
-                t.floats
-            )
-        })
+        .map(|t| format!("{:.1} times with {} floats", t.index / t.exact_pass, t.floats))
         .collect();
     format!("{line}  Against the exact sum: {}.\n", exact.join(", "))
 }
@@ -137,10 +119,7 @@ fn goal_growth(all: &[Times]) -> String {
         let floats = many.floats as f64 / few.floats as f64;
         let times = many.index / few.index;
         if times > floats {
-            missed.push((
-                times,
-                format!("{} for {floats:.2} times the floats", name(many)),
-            ));
+            missed.push((times, format!("{} for {floats:.2} times the floats", name(many))));
         }
     }
     goal("No call's time grows faster than the floats held", missed)

@@ -3,32 +3,28 @@
 //! independent soundness test and ledger. Then the same with a wrong rule each
 //! time, which the buffers must show.
 //!
-//!     cargo run --release --offline
+//!     cargo run --release --offline -p boundary
 
 mod calls;
-mod dice;
 mod drafts;
+mod ledgers;
 mod parts;
 mod sound;
 mod trial;
-mod words;
 
-use parts::{Part, Run, PARTS};
+use parts::{Part, Run, LISTS, PARTS};
 use plain_ledger::methods::Wrong;
-use sound::{Clause, Sound, CLAUSES};
+use sound::{Clause, Sound};
 use std::process::ExitCode;
 use std::sync::atomic::{AtomicUsize, Ordering};
 use std::sync::Mutex;
 use std::time::Instant;
-use trial::{Difference, Rules};
+use trial::{Difference, Given, Rules};
 
 /// The least number of buffers that a whole run tries.
 const LEAST: usize = 100_000;
 
-const RIGHT: Rules = Rules {
-    sound: Sound { without: None },
-    wrong: Wrong::Nothing,
-};
+const RIGHT: Rules = Rules { sound: Sound { without: None }, wrong: None };
 
 fn main() -> ExitCode {
     let start = Instant::now();
@@ -55,9 +51,7 @@ fn share<T: Sync, R: Send>(work: &[T], act: impl Fn(&T) -> R + Sync) -> Vec<R> {
                     return;
                 };
                 let result = act(piece);
-                done.lock()
-                    .expect("no thread panics")
-                    .push((number, result));
+                done.lock().expect("no thread panics").push((number, result));
             });
         }
     });
@@ -66,82 +60,55 @@ fn share<T: Sync, R: Send>(work: &[T], act: impl Fn(&T) -> R + Sync) -> Vec<R> {
     done.into_iter().map(|(_, result)| result).collect()
 }
 
-/// What came of one run: its part, whether nothing differed, and how many
-/// buffers it tried, by the number that the call on them gave.
-struct Outcome {
-    part: Part,
-    same: bool,
-    given: [usize; 9],
-}
-
-fn try_run(part: Part, seed: u64) -> Outcome {
-    let mut run = Run::new(part, seed, RIGHT);
-    let tried = run.go(part);
-    let given = run.trial.given;
+/// Whether nothing differed in a run, and how many buffers it tried, by the
+/// number that the call on them gave.
+fn try_run(part: &Part, seed: u64) -> (bool, Given) {
+    let (trial, tried) = Run::go(part, seed, RIGHT);
     if let Err(Difference(what)) = &tried {
-        let buffer = run.trial.tried();
-        println!("DIFFERS: {part:?}, seed {seed}, buffer {buffer}: {what}");
+        let (name, buffer) = (part.name, trial.tried());
+        println!("DIFFERS: {name}, seed {seed}, buffer {buffer}: {what}");
     }
-    Outcome {
-        part,
-        same: tried.is_ok(),
-        given,
-    }
+    (tried.is_ok(), trial.given)
 }
 
 /// Every run of every part by the right rules. Every number must come up.
 fn try_all() -> bool {
-    let mut work = Vec::new();
-    for (part, _, runs) in PARTS {
-        work.extend((0..runs).map(|seed| (part, seed)));
-    }
-    let outcomes = share(&work, |(part, seed)| try_run(*part, *seed));
-    let mut given = [0; 9];
-    for (part, name, _) in PARTS {
+    let runs = PARTS.iter().flat_map(|part| (0..part.runs).map(move |seed| (part, seed)));
+    let work: Vec<_> = runs.collect();
+    let mut outcomes = share(&work, |(part, seed)| try_run(part, *seed)).into_iter();
+    let (mut same, mut given) = (true, Given::default());
+    for part in &PARTS {
         let mut of_part = 0;
-        for outcome in outcomes.iter().filter(|o| o.part == part) {
-            (0..9).for_each(|number| given[number] += outcome.given[number]);
-            of_part += outcome.given.iter().sum::<usize>();
+        for (run_same, run_given) in outcomes.by_ref().take(part.runs as usize) {
+            same &= run_same;
+            given.iter_mut().zip(run_given).for_each(|(all, of_run)| *all += of_run);
+            of_part += run_given.iter().sum::<usize>();
         }
-        println!("{of_part:7} {name}");
+        println!("{of_part:7} {}", part.name);
     }
     let tried: usize = given.iter().sum();
     println!("{tried:7} buffers tried; calls by number 0 to 8: {given:?}");
-    tried >= LEAST && !given.contains(&0) && outcomes.iter().all(|o| o.same)
+    tried >= LEAST && !given.contains(&0) && same
 }
 
 /// Whether every call fits in the stack that the header names.
 fn try_stack() -> bool {
     let small = std::thread::Builder::new().stack_size(float_index::STACK_BYTES);
-    let lists = || (0..4).all(|seed| Run::new(Part::Lists, seed, RIGHT).go(Part::Lists).is_ok());
+    let lists = || (0..4).all(|seed| Run::go(&LISTS, seed, RIGHT).1.is_ok());
     let done = std::thread::scope(|scope| {
         let thread = small.spawn_scoped(scope, lists);
         thread.is_ok_and(|thread| thread.join().is_ok_and(|same| same))
     });
-    println!(
-        "lists of calls on a stack of {} bytes: {done}",
-        float_index::STACK_BYTES
-    );
+    println!("lists of calls on a stack of {} bytes: {done}", float_index::STACK_BYTES);
     done
 }
 
 /// Rules with one thing wrong. The limits of speeds have no place here: that
 /// clause follows from the limits of rows and from speeds in their rows.
 fn wrong_rules() -> Vec<Rules> {
-    let clauses = CLAUSES.into_iter().filter(|c| *c != Clause::Speeds);
-    let clauses = clauses.map(|clause| Rules {
-        sound: Sound {
-            without: Some(clause),
-        },
-        ..RIGHT
-    });
-    let wrong = [
-        Wrong::SignedBack,
-        Wrong::EndedEdges,
-        Wrong::NarrowedDrop,
-        Wrong::SkippedPhase,
-    ];
-    let ledgers = wrong.map(|wrong| Rules { wrong, ..RIGHT });
+    let clauses = Clause::ALL.iter().filter(|clause| **clause != Clause::Speeds);
+    let clauses = clauses.map(|clause| Rules { sound: Sound { without: Some(*clause) }, ..RIGHT });
+    let ledgers = Wrong::ALL.iter().map(|wrong| Rules { wrong: Some(*wrong), ..RIGHT });
     clauses.chain(ledgers).collect()
 }
 
@@ -160,10 +127,6 @@ fn try_wrong_rules() -> bool {
 }
 
 fn is_found(rules: Rules) -> bool {
-    (0..8).any(|seed| {
-        PARTS
-            .iter()
-            .filter(|(_, _, runs)| seed < *runs)
-            .any(|(part, ..)| Run::new(*part, seed, rules).go(*part).is_err())
-    })
+    let finds = |part: &Part, seed| seed < part.runs && Run::go(part, seed, rules).1.is_err();
+    (0..8).any(|seed| PARTS.iter().any(|part| finds(part, seed)))
 }

@@ -1,127 +1,102 @@
 //! What is tried, in parts, each in some runs of its own seed.
 
 use crate::calls::Setting;
-use crate::dice::Dice;
 use crate::drafts::Draft;
+use crate::ledgers::write;
 use crate::trial::{Difference, Rules, Trial};
-use crate::words::{write, Words, STORE_WORDS, TABLE_NUMBERS};
-use plain_ledger::ledger::{Call, Ledger, Sighting, PHASE};
+use buffers::{Words, HELD, KEYS, NOW, RECORD_WORDS};
+use dice::Dice;
+use float_index::{STORE_WORDS, TABLE_NUMBERS};
+use plain_ledger::ledger::{Call, Ledger};
+use plain_ledger::limits::{LAST_TIME, MOST_HELD, PHASE, SEA, TOP_SPEED};
 
 type Tried = Result<(), Difference>;
 
-#[derive(Clone, Copy, Debug, PartialEq, Eq)]
-pub enum Part {
-    StoreLengths,
-    TableLengths,
-    BothLengths,
-    StoreWords,
-    TableNumbers,
-    Flaws,
-    RandomWords,
-    SoundWords,
-    Lists,
+/// One way to try buffers, in so many runs; their seeds are from the first on.
+pub struct Part {
+    pub name: &'static str,
+    pub runs: u64,
+    first_seed: u64,
+    act: fn(&mut Run) -> Tried,
 }
 
-/// Each part with its name and its runs.
-pub const PARTS: [(Part, &str, u64); 9] = [
-    (Part::Flaws, "one clause broken, all else consistent", 8),
-    (Part::SoundWords, "sound words that no list need lead to", 8),
-    (Part::Lists, "lists of calls", 16),
-    (Part::StoreWords, "every word of a sound store changed", 8),
-    (
-        Part::TableNumbers,
-        "every number of a sound table changed",
-        3,
-    ),
-    (
-        Part::StoreLengths,
-        "every length of the store, 0 to 7,300",
-        4,
-    ),
-    (
-        Part::TableLengths,
-        "every length of the table, 0 to 12,400",
-        4,
-    ),
-    (Part::BothLengths, "both lengths wrong, or nearly", 2),
-    (Part::RandomWords, "random words", 4),
+const fn part(first_seed: u64, runs: u64, act: fn(&mut Run) -> Tried, name: &'static str) -> Part {
+    Part { name, runs, first_seed, act }
+}
+
+pub const LISTS: Part = part(8_000, 16, Run::list, "lists of calls");
+
+/// The parts, those that find most first.
+pub const PARTS: [Part; 9] = [
+    part(5_000, 8, Run::flaws, "one clause broken, all else consistent"),
+    part(7_000, 8, Run::sound_words, "sound words that no list need lead to"),
+    LISTS,
+    part(3_000, 8, Run::store_words, "every word of a sound store changed"),
+    part(4_000, 3, Run::table_numbers, "every number of a sound table changed"),
+    part(0, 4, Run::store_lengths, "every length of the store, up to 120 past its own"),
+    part(1_000, 4, Run::table_lengths, "every length of the table, up to 120 past its own"),
+    part(2_000, 2, Run::both_lengths, "both lengths wrong, or nearly"),
+    part(6_000, 4, Run::random_words, "random words"),
 ];
+
+/// How far past their own the lengths go that are all tried.
+const PAST: usize = 120;
+/// Any length is up to this.
+const LONG: usize = 20_000;
 
 /// One run of a part, seen from a seed.
 pub struct Run {
     dice: Dice,
     seed: u64,
-    pub trial: Trial,
+    trial: Trial,
 }
 
 impl Run {
-    pub fn new(part: Part, seed: u64, rules: Rules) -> Run {
-        Run {
-            dice: Dice::new(1_000 * part as u64 + seed),
-            seed,
-            trial: Trial::new(rules),
-        }
-    }
-
-    pub fn go(&mut self, part: Part) -> Tried {
-        match part {
-            Part::StoreLengths => self.store_lengths(),
-            Part::TableLengths => self.table_lengths(),
-            Part::BothLengths => self.both_lengths(),
-            Part::StoreWords => self.store_words(),
-            Part::TableNumbers => self.table_numbers(),
-            Part::Flaws => self.flaws(),
-            Part::RandomWords => self.random_words(),
-            Part::SoundWords => self.sound_words(),
-            Part::Lists => self.list(),
-        }
+    /// Tries a part's buffers with this seed.
+    pub fn go(part: &Part, seed: u64, rules: Rules) -> (Trial, Tried) {
+        let dice = Dice::new(part.first_seed + seed);
+        let mut run = Run { dice, seed, trial: Trial::new(rules) };
+        let tried = (part.act)(&mut run);
+        (run.trial, tried)
     }
 
     /// A sound index of a size that goes by the seed.
-    fn base(&mut self) -> Draft {
-        let floats = [20, 1_024, 1, 200, 1_023, 0, 5, 600][self.seed as usize % 8];
-        Draft::any(&mut self.dice, floats)
+    fn base(&mut self) -> (Words, Setting) {
+        let sizes = [20, MOST_HELD, 1, 200, MOST_HELD - 1, 0, 5, 600];
+        let draft = Draft::any(&mut self.dice, sizes[self.seed as usize % sizes.len()]);
+        (draft.words(), draft.setting())
     }
 
-    fn try_any(&mut self, store: &[i32], table: &[i16], now: i64, floats: &[Sighting]) -> Tried {
-        let setting = Setting { now, floats };
+    fn try_any(&mut self, store: &[i32], table: &[i16], setting: &Setting) -> Tried {
         let call = setting.call(&mut self.dice);
         let list = setting.list(&mut self.dice);
         self.trial.call(store, table, &call, list)
     }
 
     fn store_lengths(&mut self) -> Tried {
-        let draft = self.base();
-        let (mut words, reports) = (draft.words(), draft.reports());
-        words.store.resize(7_300, 0);
-        for length in (self.seed as usize..=7_300).step_by(4) {
-            self.try_any(&words.store[..length], &words.table, draft.now, &reports)?;
-        }
-        Ok(())
+        let (mut words, setting) = self.base();
+        words.store.resize(STORE_WORDS + PAST, 0);
+        let mut lengths = (self.seed as usize..=words.store.len()).step_by(4);
+        lengths.try_for_each(|n| self.try_any(&words.store[..n], &words.table, &setting))
     }
 
     fn table_lengths(&mut self) -> Tried {
-        let draft = self.base();
-        let (mut words, reports) = (draft.words(), draft.reports());
-        words.table.resize(12_400, 501);
-        for length in (self.seed as usize..=12_400).step_by(4) {
-            self.try_any(&words.store, &words.table[..length], draft.now, &reports)?;
-        }
-        Ok(())
+        let (mut words, setting) = self.base();
+        words.table.resize(TABLE_NUMBERS + PAST, TOP_SPEED as i16 + 1);
+        let mut lengths = (self.seed as usize..=words.table.len()).step_by(4);
+        lengths.try_for_each(|n| self.try_any(&words.store, &words.table[..n], &setting))
     }
 
     fn both_lengths(&mut self) -> Tried {
-        let draft = self.base();
-        let (mut words, reports) = (draft.words(), draft.reports());
-        words.store.resize(20_000, 0);
-        words.table.resize(20_000, 501);
+        let (mut words, setting) = self.base();
+        words.store.resize(LONG, 0);
+        words.table.resize(LONG, TOP_SPEED as i16 + 1);
+        let (s, t) = (STORE_WORDS, TABLE_NUMBERS);
         for _ in 0..1_500 {
-            let [long, any] = [self.dice.below(20_001), self.dice.below(20_001)];
-            let s = self.dice.pick(&[0, 1, 7, 7_174, 7_175, 7_176, 12_288, any]);
-            let t = self
-                .dice
-                .pick(&[0, 1, 4, 12_287, 12_288, 12_289, 7_175, long]);
-            self.try_any(&words.store[..s], &words.table[..t], draft.now, &reports)?;
+            let any = [0; 2].map(|_| self.dice.below(LONG + 1));
+            let store = self.dice.pick(&[0, 1, RECORD_WORDS, s - 1, s, s + 1, t, any[0]]);
+            let table = self.dice.pick(&[0, 1, 4, t - 1, t, t + 1, s, any[1]]);
+            self.try_any(&words.store[..store], &words.table[..table], &setting)?;
         }
         Ok(())
     }
@@ -131,31 +106,27 @@ impl Run {
         let sign = 1 << (bits - 1);
         let any = self.dice.range(-sign, sign - 1);
         let near = word + self.dice.range(-9, 9);
-        let new = self
-            .dice
-            .pick(&[word + 1, word - 1, word ^ -sign, 0, any, near, -word]);
+        let new = self.dice.pick(&[word + 1, word - 1, word ^ -sign, 0, any, near, -word]);
         new.clamp(-sign, sign - 1)
     }
 
     fn store_words(&mut self) -> Tried {
-        let draft = self.base();
-        let (mut words, reports) = (draft.words(), draft.reports());
+        let (mut words, setting) = self.base();
         for place in 0..STORE_WORDS {
             let old = words.store[place];
-            words.store[place] = self.other(i64::from(old), 32) as i32;
-            self.try_any(&words.store, &words.table, draft.now, &reports)?;
+            words.store[place] = self.other(old.into(), 32) as i32;
+            self.try_any(&words.store, &words.table, &setting)?;
             words.store[place] = old;
         }
         Ok(())
     }
 
     fn table_numbers(&mut self) -> Tried {
-        let draft = self.base();
-        let (mut words, reports) = (draft.words(), draft.reports());
+        let (mut words, setting) = self.base();
         for place in 0..TABLE_NUMBERS {
             let old = words.table[place];
-            words.table[place] = self.other(i64::from(old), 16) as i16;
-            self.try_any(&words.store, &words.table, draft.now, &reports)?;
+            words.table[place] = self.other(old.into(), 16) as i16;
+            self.try_any(&words.store, &words.table, &setting)?;
             words.table[place] = old;
         }
         Ok(())
@@ -163,12 +134,12 @@ impl Run {
 
     fn flaws(&mut self) -> Tried {
         for _ in 0..150 {
-            let floats = self.dice.pick(&[1, 2, 3, 10, 40, 1_024]);
+            let floats = self.dice.pick(&[1, 2, 3, 10, 40, MOST_HELD]);
             let draft = Draft::any(&mut self.dice, floats);
-            let reports = draft.reports();
+            let setting = draft.setting();
             for _ in 0..12 {
                 let words = draft.flawed(&mut self.dice);
-                self.try_any(&words.store, &words.table, draft.now, &reports)?;
+                self.try_any(&words.store, &words.table, &setting)?;
             }
         }
         Ok(())
@@ -176,11 +147,11 @@ impl Run {
 
     fn sound_words(&mut self) -> Tried {
         for _ in 0..150 {
-            let floats = self.dice.pick(&[0, 1, 3, 30, 30, 300, 1_024]);
+            let floats = self.dice.pick(&[0, 1, 3, 30, 30, 300, MOST_HELD]);
             let draft = Draft::any(&mut self.dice, floats);
-            let (words, reports) = (draft.words(), draft.reports());
+            let (words, setting) = (draft.words(), draft.setting());
             for _ in 0..12 {
-                self.try_any(&words.store, &words.table, draft.now, &reports)?;
+                self.try_any(&words.store, &words.table, &setting)?;
             }
         }
         Ok(())
@@ -189,32 +160,29 @@ impl Run {
     /// Words of any kind: all random, in narrow ranges, or with a sound head.
     fn random_words(&mut self) -> Tried {
         for number in 0..1_000 {
-            let narrow = [i64::MAX, 8_388_607, 3_072, 1][number % 4];
+            let narrow = [i64::MAX, SEA, KEYS as i64, 1][number % 4];
             let dice = &mut self.dice;
-            let mut word = || dice.next() as i64 % narrow;
+            let mut word = || dice.bits() as i64 % narrow;
             let mut store: Vec<i32> = (0..STORE_WORDS).map(|_| word() as i32).collect();
             let table: Vec<i16> = (0..TABLE_NUMBERS).map(|_| word() as i16).collect();
             if number % 3 == 0 {
-                let held = self.dice.range(0, 1_024) as i32;
-                let now = self.dice.range(0, 999_999_999) as i32;
-                store[..7].copy_from_slice(&[now, held, 0, 0, 0, 0, 0]);
+                store[..RECORD_WORDS].fill(0);
+                store[HELD] = self.dice.range(0, MOST_HELD as i64) as i32;
+                store[NOW] = self.dice.range(0, LAST_TIME) as i32;
             }
-            let now = i64::from(store[0]).clamp(0, 999_999_999);
-            self.try_any(&store, &table, now, &[])?;
+            let now = i64::from(store[NOW]).clamp(0, LAST_TIME);
+            self.try_any(&store, &table, &Setting { now, floats: Vec::new() })?;
         }
         Ok(())
     }
 
     /// A list of calls after an open, the words of each handed to the next.
     fn list(&mut self) -> Tried {
-        let wrong = self.trial.rules().wrong;
-        let mut ledger = Ledger::new(wrong);
-        let mut words = write(&ledger);
-        let most = [30, 3, 100, 1_024][self.seed as usize % 4];
-        let start = PHASE * self.dice.range(0, 4) + self.dice.range(0, PHASE - 1);
-        words = self
-            .trial
-            .next(&mut ledger, words, &Call::Open { t: start }, 0)?;
+        let mut ledger = Ledger::new(self.trial.rules().wrong);
+        let most = [30, 3, 100, MOST_HELD][self.seed as usize % 4];
+        let t = PHASE * self.dice.range(0, 4) + self.dice.range(0, PHASE - 1);
+        let words = write(&ledger);
+        let mut words = self.trial.next(&mut ledger, words, &Call::Open { t }, 0)?;
         while ledger.held().len() < most && most > 100 {
             words = self.next_call(&mut ledger, words, true)?;
         }
@@ -231,17 +199,9 @@ impl Run {
         words: Words,
         grow: bool,
     ) -> Result<Words, Difference> {
-        let floats: Vec<Sighting> = ledger.reports().copied().collect();
-        let setting = Setting {
-            now: ledger.now(),
-            floats: &floats,
-        };
+        let setting = Setting::of(ledger);
         let dice = &mut self.dice;
-        let mut call = if grow {
-            setting.change(dice)
-        } else {
-            setting.call(dice)
-        };
+        let mut call = if grow { setting.change(dice) } else { setting.call(dice) };
         let list = setting.list(dice);
         // An open would empty the index, and a list has few of them.
         if matches!(call, Call::Open { .. }) && !dice.chance(30) {

@@ -2,37 +2,14 @@
 //! one clause at a time, with no code of the index in it. A clause can be left
 //! out, to see whether the buffers tried would show it.
 
-use crate::words::{curve_number, RECORD, STORE_WORDS};
-use plain_ledger::grid::{cell, CELLS, SEA};
+use crate::ledgers::{key_in, keyed, Keyed};
+use buffers::{records, rows, Row, EMPTY, HELD, NOW, RECORD_WORDS};
 use plain_ledger::ledger::{live, slot, Sighting};
-use plain_ledger::ledger::{LAST_ID, LAST_TIME, MOST_HELD, PHASE, TOP_SPEED};
+use plain_ledger::limits::{CELLS, LAST_ID, LAST_TIME, MOST_HELD, PHASE, SEA, TOP_SPEED};
 
-#[derive(Clone, Copy, Debug, PartialEq, Eq)]
-pub enum Clause {
-    Now,
-    Held,
-    HeadZeros,
-    Ids,
-    Positions,
-    Speeds,
-    TimesFromZero,
-    TimesToNow,
-    IdsDistinct,
-    KeysRising,
-    IdsRisingInKey,
-    KeyOfLivePhase,
-    KeyNotBeforeReport,
-    KeyOfCell,
-    UnusedZeros,
-    RowsOrdered,
-    RowsLimited,
-    RowsEmptyOnBothAxes,
-    SpeedsInRow,
-}
-
-pub const CLAUSES: [Clause; 19] = {
-    use Clause::*;
-    [
+plain_ledger::listed! {
+    /// What a sound store and table fulfil.
+    pub enum Clause {
         Now,
         Held,
         HeadZeros,
@@ -52,31 +29,13 @@ pub const CLAUSES: [Clause; 19] = {
         RowsLimited,
         RowsEmptyOnBothAxes,
         SpeedsInRow,
-    ]
-};
+    }
+}
 
 /// The test, with one clause left out or none.
 #[derive(Clone, Copy)]
 pub struct Sound {
     pub without: Option<Clause>,
-}
-
-/// A record's key and report.
-pub fn record(words: &[i32]) -> (i64, Sighting) {
-    let w = |i: usize| i64::from(words[i]);
-    let report = Sighting {
-        id: w(1),
-        t: w(2),
-        at: [w(3), w(4)],
-        speed: [w(5), w(6)],
-    };
-    (w(0), report)
-}
-
-/// The key of a report in a phase.
-pub fn key_in(phase: i64, report: &Sighting) -> i64 {
-    let number = curve_number(cell(report.position(PHASE * phase)));
-    (CELLS * slot(phase) + number) as i64
 }
 
 impl Sound {
@@ -89,36 +48,31 @@ impl Sound {
         if !self.head(store) {
             return false;
         }
-        let Ok(held) = usize::try_from(store[1]) else {
+        let Ok(held) = usize::try_from(store[HELD]) else {
             return false;
         };
         // A count that is out of range is out of the store too.
-        let end = RECORD * (held + 1);
-        if end > STORE_WORDS {
+        let Some((used, unused)) = records(store).split_at_checked(held) else {
             return true;
-        }
-        let (used, unused) = store[RECORD..].split_at(end - RECORD);
-        let records: Vec<_> = used.chunks(RECORD).map(record).collect();
-        let now = i64::from(store[0]);
-        self.check(Clause::UnusedZeros, unused.iter().all(|w| *w == 0))
-            && records.iter().all(|r| self.record(now, r))
-            && self.check(Clause::IdsDistinct, are_distinct(&records))
-            && records
-                .windows(2)
-                .all(|pair| self.order(&pair[0], &pair[1]))
-            && table.chunks(4).all(|row| self.row(row))
-            && records.iter().all(|r| self.in_row(table, r))
+        };
+        let used: Vec<Keyed> = used.iter().map(keyed).collect();
+        let now = i64::from(store[NOW]);
+        self.check(Clause::UnusedZeros, unused.as_flattened().iter().all(|w| *w == 0))
+            && used.iter().all(|r| self.record(now, r))
+            && self.check(Clause::IdsDistinct, are_distinct(&used))
+            && used.windows(2).all(|pair| self.order(&pair[0], &pair[1]))
+            && rows(table).iter().all(|row| self.row(row))
+            && used.iter().all(|r| self.in_row(table, r))
     }
 
     fn head(&self, store: &[i32]) -> bool {
-        let now = i64::from(store[0]);
-        let held = i64::from(store[1]);
+        let [now, held] = [NOW, HELD].map(|word| i64::from(store[word]));
         self.check(Clause::Now, (0..=LAST_TIME).contains(&now))
             && self.check(Clause::Held, (0..=MOST_HELD as i64).contains(&held))
-            && self.check(Clause::HeadZeros, store[2..RECORD] == [0; 5])
+            && self.check(Clause::HeadZeros, store[HELD + 1..RECORD_WORDS].iter().all(|w| *w == 0))
     }
 
-    fn record(&self, now: i64, (key, report): &(i64, Sighting)) -> bool {
+    fn record(&self, now: i64, (key, report): &Keyed) -> bool {
         let Sighting { id, t, at, speed } = report;
         self.check(Clause::Ids, (1..=LAST_ID).contains(id))
             && self.check(Clause::Positions, at.iter().all(|x| (0..=SEA).contains(x)))
@@ -147,15 +101,14 @@ impl Sound {
         (first..=c).filter(is_live).any(is_right)
     }
 
-    fn order(&self, a: &(i64, Sighting), b: &(i64, Sighting)) -> bool {
+    fn order(&self, a: &Keyed, b: &Keyed) -> bool {
         self.check(Clause::KeysRising, a.0 <= b.0)
             && self.check(Clause::IdsRisingInKey, a.0 != b.0 || a.1.id <= b.1.id)
     }
 
-    fn row(&self, row: &[i16]) -> bool {
-        let halves = [&row[..2], &row[2..]];
-        let empty = halves.map(|half| half == [501, -501]);
-        let full = halves.map(|half| self.half(half));
+    fn row(&self, row: &Row) -> bool {
+        let empty = [0, 1].map(|axis| row[axis] == EMPTY[axis]);
+        let full = row.map(|span| self.span(span));
         if self.without == Some(Clause::RowsEmptyOnBothAxes) {
             return (0..2).all(|axis| empty[axis] || full[axis]);
         }
@@ -163,29 +116,23 @@ impl Sound {
     }
 
     /// Least and greatest of an axis of a row that is not empty.
-    fn half(&self, half: &[i16]) -> bool {
-        let limit = TOP_SPEED as i16;
-        let limited = half.iter().all(|v| (-limit..=limit).contains(v));
+    fn span(&self, span: [i16; 2]) -> bool {
+        let limited = span.iter().all(|v| i64::from(*v).abs() <= TOP_SPEED);
         self.check(Clause::RowsLimited, limited)
-            && self.check(Clause::RowsOrdered, half[0] <= half[1])
+            && self.check(Clause::RowsOrdered, span[0] <= span[1])
     }
 
-    fn in_row(&self, table: &[i16], (key, report): &(i64, Sighting)) -> bool {
-        let Some(row) = usize::try_from(*key)
-            .ok()
-            .and_then(|k| table.get(4 * k..4 * k + 4))
-        else {
-            return true;
+    fn in_row(&self, table: &[i16], (key, report): &Keyed) -> bool {
+        let row = usize::try_from(*key).ok().and_then(|key| rows(table).get(key));
+        let holds = |row: &Row| {
+            let spans = row.map(|[least, greatest]| least.into()..=greatest.into());
+            spans.iter().zip(report.speed).all(|(span, v)| span.contains(&v))
         };
-        let holds = (0..2).all(|axis| {
-            let (least, greatest) = (i64::from(row[2 * axis]), i64::from(row[2 * axis + 1]));
-            (least..=greatest).contains(&report.speed[axis])
-        });
-        self.check(Clause::SpeedsInRow, holds)
+        self.check(Clause::SpeedsInRow, row.is_none_or(holds))
     }
 }
 
-fn are_distinct(records: &[(i64, Sighting)]) -> bool {
+fn are_distinct(records: &[Keyed]) -> bool {
     let mut ids: Vec<i64> = records.iter().map(|r| r.1.id).collect();
     ids.sort_unstable();
     ids.windows(2).all(|pair| pair[0] != pair[1])

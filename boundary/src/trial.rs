@@ -1,17 +1,18 @@
 //! One buffer tried: lent to a call, and the reply and all three buffers
 //! afterwards compared with what document 01 says.
 
+use crate::ledgers::{read, report, small, write};
 use crate::sound::Sound;
-use crate::words::{read, write, Words, STORE_WORDS, TABLE_NUMBERS};
-use float_index::{Reply, Report};
-use plain_ledger::ledger::{Answer, Call, Ledger, Sighting};
+use buffers::Words;
+use float_index::{refusal, Rectangle, Reply, STORE_WORDS, TABLE_NUMBERS};
+use plain_ledger::ledger::{Answer, Call, Ledger};
 use plain_ledger::methods::Wrong;
 
 /// The rules that the index is compared with: document 01's, or wrong ones.
 #[derive(Clone, Copy)]
 pub struct Rules {
     pub sound: Sound,
-    pub wrong: Wrong,
+    pub wrong: Option<Wrong>,
 }
 
 /// What differed.
@@ -28,10 +29,7 @@ const MARGIN: usize = 8;
 
 impl<T: Copy + PartialEq> Lent<T> {
     fn new(margin: T) -> Lent<T> {
-        Lent {
-            all: Vec::new(),
-            margin,
-        }
+        Lent { all: Vec::new(), margin }
     }
 
     fn fill(&mut self, numbers: &[T]) {
@@ -63,13 +61,16 @@ struct Expected {
     ids: Vec<u16>,
 }
 
+/// A count for each number that a call gives.
+pub type Given = [usize; refusal::LIST_TOO_SHORT + 1];
+
 pub struct Trial {
     rules: Rules,
     store: Lent<i32>,
     table: Lent<i16>,
     list: Lent<u16>,
     /// Buffers tried so far, by the number that the call on them gave.
-    pub given: [usize; 9],
+    pub given: Given,
 }
 
 impl Trial {
@@ -79,7 +80,7 @@ impl Trial {
             store: Lent::new(-77),
             table: Lent::new(-77),
             list: Lent::new(777),
-            given: [0; 9],
+            given: Given::default(),
         }
     }
 
@@ -106,9 +107,9 @@ impl Trial {
         }
         let open = matches!(call, Call::Open { .. });
         let expected = if !long {
-            refused(1, 0)
+            refused(refusal::WRONG_LENGTH, 0)
         } else if !sound && !open {
-            refused(2, 0)
+            refused(refusal::UNSOUND, 0)
         } else {
             let wrong = self.rules.wrong;
             let mut ledger = match open {
@@ -154,7 +155,7 @@ impl Trial {
             Some(words) => (&words.store[..], &words.table[..]),
             None => (store, table),
         };
-        self.given[reply.number.min(8)] += 1;
+        self.given[reply.number.min(refusal::LIST_TOO_SHORT)] += 1;
         let what = if reply != expected.reply {
             format!("reply {reply:?}, expected {:?}", expected.reply)
         } else if !self.store.holds(store) {
@@ -166,67 +167,27 @@ impl Trial {
         } else {
             return Ok(());
         };
-        Err(Difference(format!(
-            "{what}; {call:?} with a list of {list}"
-        )))
+        Err(Difference(format!("{what}; {call:?} with a list of {list}")))
     }
 }
 
 fn refused(number: usize, value: usize) -> Expected {
-    let reply = Reply {
-        number,
-        value,
-        cells: 0,
-        useful: 0,
-        rounds: 0,
-    };
-    Expected {
-        reply,
-        words: None,
-        ids: Vec::new(),
-    }
+    let reply = Reply { number, value, ..Reply::default() };
+    Expected { reply, words: None, ids: Vec::new() }
 }
 
 /// What the ledger says of a call on sound buffers.
 fn expected(ledger: &mut Ledger, call: &Call, list: usize) -> Expected {
     match ledger.call(call, list) {
         Answer::Refused(number, value) => refused(number as usize, value as usize),
-        Answer::Accepted(held) => Expected {
-            words: Some(write(ledger)),
-            ..refused(0, held as usize)
-        },
-        Answer::Listed {
-            ids,
-            cells,
-            useful,
-            rounds,
-        } => Expected {
-            reply: Reply {
-                number: 0,
-                value: ids.len(),
-                cells,
-                useful,
-                rounds,
-            },
+        Answer::Accepted(held) => {
+            Expected { words: Some(write(ledger)), ..refused(0, held as usize) }
+        }
+        Answer::Listed { ids, cells, useful, rounds } => Expected {
+            reply: Reply { number: 0, value: ids.len(), cells, useful, rounds },
             words: None,
             ids: ids.iter().map(|id| *id as u16).collect(),
         },
-    }
-}
-
-/// A number of a call, which the generator keeps in 32 bits.
-fn small(number: i64) -> i32 {
-    i32::try_from(number).expect("a call's numbers fit 32 bits")
-}
-
-fn report(s: &Sighting) -> Report {
-    Report {
-        id: small(s.id),
-        t: small(s.t),
-        x: small(s.at[0]),
-        y: small(s.at[1]),
-        vx: small(s.speed[0]),
-        vy: small(s.speed[1]),
     }
 }
 
@@ -239,21 +200,10 @@ fn run(call: &Call, store: &mut [i32], table: &mut [i16], list: &mut [u16]) -> R
         Call::Report(s) => float_index::report(store, table, report(s)),
         Call::Drop { id, t } => float_index::drop(store, table, small(*id), small(*t)),
         Call::Ask(ask) => {
-            let [low, high] = [ask.rectangle.low, ask.rectangle.high];
-            let rectangle = float_index::Rectangle {
-                low_x: small(low[0]),
-                low_y: small(low[1]),
-                high_x: small(high[0]),
-                high_y: small(high[1]),
-            };
-            float_index::ask(
-                store,
-                table,
-                list,
-                small(ask.method),
-                small(ask.time),
-                rectangle,
-            )
+            let [low_x, low_y] = ask.rectangle.low.map(small);
+            let [high_x, high_y] = ask.rectangle.high.map(small);
+            let rectangle = Rectangle { low_x, low_y, high_x, high_y };
+            float_index::ask(store, table, list, small(ask.method), small(ask.time), rectangle)
         }
     }
 }

@@ -5,75 +5,18 @@
 //! A ledger runs along, so that most calls are accepted and asks can aim at
 //! floats. The same number always gives the same lists.
 
-use crate::grid::{SEA, WIDTH};
-use crate::ledger::{Sighting, LAST_ID, LAST_TIME, PHASE, TOP_SPEED};
-use crate::lines::{write_line, LONGEST};
-use crate::methods::Wrong;
+use crate::calls::{ask, later, sighting, spoiled, start, Fleet, Pace};
+use crate::ledger::{Ledger, Sighting};
+use crate::limits::{LAST_ID, LAST_METHOD, LAST_TIME, MOST_HELD, SEA, TOP_SPEED};
+use crate::lines::{sighting_numbers, write_line, COLUMNS, LONGEST};
 use crate::stream::{answers, Stream};
+use dice::Dice;
 
 /// A list of lines, as the bytes of a file, and the ledger's answers to it.
 pub struct List {
     pub style: &'static str,
     pub input: Vec<u8>,
     pub answers: Vec<u8>,
-}
-
-/// A small generator of numbers (splitmix64).
-struct Dice(u64);
-
-impl Dice {
-    fn next(&mut self) -> u64 {
-        self.0 = self.0.wrapping_add(0x9e37_79b9_7f4a_7c15);
-        let z = (self.0 ^ (self.0 >> 30)).wrapping_mul(0xbf58_476d_1ce4_e5b9);
-        let z = (z ^ (z >> 27)).wrapping_mul(0x94d0_49bb_1331_11eb);
-        z ^ (z >> 31)
-    }
-
-    /// A number from low to high, both included.
-    fn range(&mut self, low: i64, high: i64) -> i64 {
-        low + (self.next() % (high - low + 1) as u64) as i64
-    }
-
-    fn pick<T: Copy>(&mut self, from: &[T]) -> T {
-        from[self.range(0, from.len() as i64 - 1) as usize]
-    }
-
-    /// True this often in a thousand.
-    fn chance(&mut self, often: i64) -> bool {
-        self.range(1, 1_000) <= often
-    }
-}
-
-/// How time passes from one change to the next.
-#[derive(Clone, Copy)]
-enum Pace {
-    Still,
-    Seconds,
-    Minutes,
-    /// To a phase border, a second before it or a second after it.
-    Border,
-    /// Over one to six phases.
-    Jump,
-    /// Over up to 20,000 phases.
-    Silence,
-    /// To the last hours that there are.
-    End,
-}
-
-/// How floats lie and move.
-#[derive(Clone, Copy)]
-enum Fleet {
-    Any,
-    /// Near the edges of the sea, mostly outward.
-    Edges,
-    /// Slow, with a fast one now and then.
-    FewFast,
-    /// Toward the middle, the faster the farther off.
-    Graded,
-    /// Positions and speeds at their limits and at cell borders.
-    Limits,
-    /// Nearly at rest in a corner of the sea.
-    Corner,
 }
 
 #[derive(Clone, Copy)]
@@ -108,7 +51,7 @@ const STYLES: [Style; 14] = {
         style("graded", Graded, 300, &[Still, Still, Seconds]),
         style("limits", Limits, 12, &[Still, Still, Seconds, Border, Jump]),
         style("sparse", Corner, 5, &[Still, Still, Minutes, Border]),
-        Style { asks: 250, reopen: 0, ..style("full store", Any, 1_024, &[Still, Still, Still, Seconds, Seconds, Minutes, Border]) },
+        Style { asks: 250, reopen: 0, ..style("full store", Any, MOST_HELD, &[Still, Still, Still, Seconds, Seconds, Minutes, Border]) },
         Style { damage: 500, ..style("damaged lines", Any, 30, &[Seconds, Minutes]) },
         Style { refusals: 600, reopen: 20, ..style("refusals, reopenings", Limits, 8, &[Still, Minutes, Border]) },
     ]
@@ -145,9 +88,7 @@ fn short_lists() -> Vec<List> {
         line.to_vec(),
         listing.to_vec(),
         unended.to_vec(),
-        String::from_utf8_lossy(listing)
-            .replace('\n', "\r\n")
-            .into_bytes(),
+        String::from_utf8_lossy(listing).replace('\n', "\r\n").into_bytes(),
         [listing, b"\n", listing, b"\n\n", unended].concat(),
         (0..=255).collect(),
     ];
@@ -159,38 +100,32 @@ fn short_lists() -> Vec<List> {
         }
     }
     let style = "short";
-    let list = |input: Vec<u8>| List {
-        style,
-        answers: answers(&input, Wrong::Nothing),
-        input,
-    };
+    let list = |input: Vec<u8>| List { style, answers: answers(&input, None), input };
     inputs.into_iter().map(list).collect()
 }
 
-/// A file of 200,000 report lines over a fleet of 1,024.
+/// A file of 200,000 report lines over a full fleet.
 pub fn many_reports() -> Vec<u8> {
     let mut maker = Maker::new(1_000_001);
-    maker.settle(1_024);
-    for number in 0..200_000 {
+    maker.settle(MOST_HELD);
+    for t in 0..200_000 {
         let id = maker.held_id();
-        let sighting = maker.sighting(Fleet::Any, id, number);
-        maker.sight(b'U', &sighting);
+        maker.sight(b'U', Fleet::Any, id, t);
     }
     maker.input
 }
 
-/// A file of 20,000 optimal asks of a fleet of 1,024 in three phases.
+/// A file of 20,000 optimal asks of a full fleet in three phases.
 pub fn many_asks() -> Vec<u8> {
     let mut maker = Maker::new(1_000_002);
-    maker.settle(1_024);
-    for number in 0..1_024 {
+    maker.settle(MOST_HELD);
+    for number in 0..MOST_HELD as i64 {
         let id = maker.held_id();
-        let sighting = maker.sighting(Fleet::Any, id, 10 * number);
-        maker.sight(b'U', &sighting);
+        maker.sight(b'U', Fleet::Any, id, 10 * number);
     }
     for _ in 0..20_000 {
-        let (time, corners) = maker.ask_numbers();
-        maker.put(b'Q', &[&[3, time], &corners[..]].concat());
+        let numbers = maker.ask_numbers();
+        maker.put_ask(LAST_METHOD, numbers);
     }
     maker.input
 }
@@ -206,10 +141,10 @@ struct Maker {
 impl Maker {
     fn new(seed: u64) -> Maker {
         Maker {
-            dice: Dice(seed),
+            dice: Dice::new(seed),
             input: Vec::new(),
             lines: 0,
-            mirror: Stream::new(Wrong::Nothing),
+            mirror: Stream::new(None),
             answers: Vec::new(),
         }
     }
@@ -226,8 +161,14 @@ impl Maker {
         self.raw(&line);
     }
 
-    fn sight(&mut self, letter: u8, s: &Sighting) {
-        self.put(letter, &sighting_numbers(s));
+    /// A report, or an add, of a float that lies and moves so.
+    fn sight(&mut self, letter: u8, fleet: Fleet, id: i64, t: i64) {
+        let sighting = sighting(&mut self.dice, fleet, id, t);
+        self.put(letter, &sighting_numbers(&sighting));
+    }
+
+    fn put_ask(&mut self, method: i64, numbers: [i64; 5]) {
+        self.put(b'Q', &[&[method], &numbers[..]].concat());
     }
 
     fn now(&self) -> i64 {
@@ -239,7 +180,7 @@ impl Maker {
     }
 
     fn list(mut self, style: &Style) -> List {
-        if style.held == 1_024 {
+        if style.held == MOST_HELD {
             self.fill_up();
         } else if self.dice.chance(700) {
             self.reopen();
@@ -252,11 +193,7 @@ impl Maker {
         if self.dice.chance(500) {
             self.input.pop();
         }
-        List {
-            style: style.name,
-            input: self.input,
-            answers: self.answers,
-        }
+        List { style: style.name, input: self.input, answers: self.answers }
     }
 
     /// One or a few lines in a style.
@@ -275,30 +212,14 @@ impl Maker {
     }
 
     fn reopen(&mut self) {
-        let border = PHASE * self.dice.range(0, 5);
-        let any = self.dice.range(0, LAST_TIME);
-        let near = [0, 1, border, border + PHASE - 1, border + 1_800, self.now()];
-        let t = match self.dice.range(0, 9) {
-            0 => LAST_TIME - self.dice.range(0, 9_000),
-            1 => any,
-            2 => any / PHASE * PHASE,
-            _ => self.dice.pick(&near),
-        };
+        let t = start(&mut self.dice, self.mirror.ledger().now());
         self.put(b'O', &[t]);
     }
 
     fn later(&mut self, paces: &[Pace]) -> i64 {
         let now = self.now();
-        let border = now / PHASE * PHASE + PHASE;
-        let t = match self.dice.pick(paces) {
-            Pace::Still => now,
-            Pace::Seconds => now + self.dice.range(0, 20),
-            Pace::Minutes => now + self.dice.range(0, 1_500),
-            Pace::Border => border + self.dice.pick(&[-1, 0, 0, 1]),
-            Pace::Jump => border + PHASE * self.dice.range(0, 5) + self.dice.pick(&[-1, 0, 1, 999]),
-            Pace::Silence => border + PHASE * self.dice.range(3, 20_000),
-            Pace::End => now.max(LAST_TIME - self.dice.range(0, 30_000)),
-        };
+        let pace = self.dice.pick(paces);
+        let t = later(&mut self.dice, now, pace);
         if t > LAST_TIME && self.dice.chance(100) {
             self.reopen();
             return self.now();
@@ -312,13 +233,11 @@ impl Maker {
         match kind {
             0..=11 | 18 if kind == 18 || self.held() < style.held => {
                 let id = self.new_id();
-                let sighting = self.sighting(style.fleet, id, t);
-                self.sight(b'A', &sighting);
+                self.sight(b'A', style.fleet, id, t);
             }
             0..=15 => {
                 let id = self.held_id();
-                let sighting = self.sighting(style.fleet, id, t);
-                self.sight(b'U', &sighting);
+                self.sight(b'U', style.fleet, id, t);
             }
             16..=17 => {
                 let id = self.held_id();
@@ -339,109 +258,25 @@ impl Maker {
 
     /// A held id; any id when none is held.
     fn held_id(&mut self) -> i64 {
-        self.held_report().map_or(1, |report| report.id)
-    }
-
-    fn held_report(&mut self) -> Option<Sighting> {
-        let index = self.dice.range(0, self.held().max(1) as i64 - 1);
-        self.mirror.ledger().reports().nth(index as usize).copied()
-    }
-
-    fn sighting(&mut self, fleet: Fleet, id: i64, t: i64) -> Sighting {
-        let mut at = [0; 2];
-        let mut speed = [0; 2];
-        let fast = self.dice.chance(25);
-        for axis in 0..2 {
-            let dice = &mut self.dice;
-            let any = dice.range(0, SEA);
-            let any_speed = dice.range(-TOP_SPEED, TOP_SPEED);
-            (at[axis], speed[axis]) = match fleet {
-                Fleet::Any => (any, any_speed / dice.pick(&[1, 1, 4, 50])),
-                Fleet::Edges => {
-                    let off = any / dice.pick(&[2, 30, 3_000]);
-                    match dice.range(0, 4) {
-                        0 => (any, any_speed),
-                        1 => (off, any_speed),
-                        2 => (SEA - off, any_speed),
-                        3 => (off, -any_speed.abs()),
-                        _ => (SEA - off, any_speed.abs()),
-                    }
-                }
-                Fleet::FewFast if fast => (any, dice.pick(&[-TOP_SPEED, TOP_SPEED, any_speed])),
-                Fleet::FewFast => (any, dice.range(-3, 3)),
-                Fleet::Graded => graded(dice, any, t),
-                Fleet::Limits => {
-                    let border = WIDTH * dice.range(1, 31) - dice.range(0, 1);
-                    let speed = dice.pick(&[-500, -499, -1, 0, 1, 499, 500]);
-                    (dice.pick(&[0, 1, SEA - 1, SEA, border, border]), speed)
-                }
-                Fleet::Corner => (any / 8, any_speed / 40),
-            };
-        }
-        Sighting { id, t, at, speed }
+        let report = any_held(self.mirror.ledger(), &mut self.dice);
+        report.map_or(1, |report| report.id)
     }
 
     fn ask(&mut self) {
-        let (time, corners) = self.ask_numbers();
-        let methods = match self.dice.range(0, 2) {
-            0 => vec![0, 1, 2, 3],
-            _ => vec![self.dice.range(0, 3)],
+        let numbers = self.ask_numbers();
+        let any = match self.dice.range(0, 2) {
+            0 => 0..=LAST_METHOD,
+            _ => {
+                let method = self.dice.range(0, LAST_METHOD);
+                method..=method
+            }
         };
-        for method in methods {
-            self.put(b'Q', &[&[method, time], &corners[..]].concat());
-        }
+        any.for_each(|method| self.put_ask(method, numbers));
     }
 
-    /// A time and the corners of a rectangle, all in range.
-    fn ask_numbers(&mut self) -> (i64, [i64; 4]) {
-        let now = self.now();
-        let (first, last) = (now - 3_600, now + 7_200);
-        let border = now / PHASE * PHASE + PHASE * self.dice.range(-2, 2);
-        let time = match self.dice.range(0, 7) {
-            0 => now,
-            1 => first,
-            2 => last,
-            3 => border + self.dice.range(-1, 1),
-            4 | 5 => self.dice.range(first, now),
-            _ => self.dice.range(now, last),
-        };
-        let time = time.clamp(first.max(0), last.min(LAST_TIME));
-        let target = self.held_report().map(|report| report.position(time));
-        let mut low = [0; 2];
-        let mut high = [SEA; 2];
-        let kind = self.dice.range(0, 19);
-        let strip = self.dice.range(0, 2) as usize;
-        for axis in 0..2 {
-            let dice = &mut self.dice;
-            let any = dice.range(0, SEA);
-            let aim = target.map_or(any, |at| at[axis]);
-            let (from, to) = match kind {
-                0 => (0, SEA),
-                1..=5 => {
-                    let sides = [0, 0, 1, 700, WIDTH];
-                    (aim - dice.pick(&sides), aim + dice.pick(&sides))
-                }
-                6 => (aim + dice.range(0, 1), aim + 5_000),
-                7 => (aim - 5_000, aim - dice.range(0, 1)),
-                8..=10 => (any, any + dice.range(0, 1_000)),
-                11..=13 => (any, any + dice.range(0, 2_000_000)),
-                14..=15 => {
-                    let first = any / WIDTH * WIDTH;
-                    let cells = WIDTH * dice.range(1, 3);
-                    (first + dice.range(-1, 1), first + cells + dice.range(-2, 0))
-                }
-                16..=17 if strip == axis => (0, SEA),
-                16..=17 => (any, any + dice.range(0, 300_000)),
-                18 => dice.pick(&[(0, 0), (SEA, SEA), (0, any), (any, SEA)]),
-                _ => {
-                    let middle = SEA / 2 + dice.range(-2_000, 2_000);
-                    (middle, middle + dice.range(0, 100_000))
-                }
-            };
-            low[axis] = from.clamp(0, SEA);
-            high[axis] = to.clamp(low[axis], SEA);
-        }
-        (time, [low[0], low[1], high[0], high[1]])
+    fn ask_numbers(&mut self) -> [i64; 5] {
+        let ledger = self.mirror.ledger();
+        ask(&mut self.dice, ledger.now(), |dice| any_held(ledger, dice))
     }
 
     /// The letter and numbers of a call in range.
@@ -452,12 +287,12 @@ impl Maker {
             b'O' | b'C' => vec![t],
             b'D' => vec![self.held_id(), t],
             b'Q' => {
-                let (time, corners) = self.ask_numbers();
-                [&[self.dice.range(0, 3), time], &corners[..]].concat()
+                let numbers = self.ask_numbers();
+                [&[self.dice.range(0, LAST_METHOD)], &numbers[..]].concat()
             }
             _ => {
                 let id = self.held_id();
-                sighting_numbers(&self.sighting(fleet, id, t)).to_vec()
+                sighting_numbers(&sighting(&mut self.dice, fleet, id, t)).to_vec()
             }
         };
         (letter, numbers)
@@ -472,23 +307,8 @@ impl Maker {
             numbers[0] = self.new_id();
         }
         for _ in 0..self.dice.range(0, 2) {
-            let dice = &mut self.dice;
-            let field = dice.range(0, numbers.len() as i64 - 1) as usize;
-            let far = dice.pick(&[-1, -999_999_999, 2_147_483_647]);
-            let time = match letter {
-                b'Q' => dice.pick(&[now - 3_601, now - 3_600, now + 7_200, now + 7_201, far]),
-                _ => dice.pick(&[now - 1, now, 0, LAST_TIME + 1, far]),
-            };
-            let corner = dice.pick(&[-1, 0, SEA, SEA + 1, far]);
-            numbers[field] = match (letter, field) {
-                (b'O', _) => dice.pick(&[-1, LAST_TIME, LAST_TIME + 1, far]),
-                (b'C', _) | (_, 1) => time,
-                (b'Q', 0) => dice.pick(&[-1, 0, 3, 4, far]),
-                (_, 0) => dice.pick(&[-1, 0, 1, LAST_ID, LAST_ID + 1, far]),
-                (b'Q', 4 | 5) => dice.pick(&[numbers[field - 2].max(0) - 1, corner]),
-                (_, 2 | 3) | (b'Q', _) => corner,
-                _ => dice.pick(&[-501, -500, 500, 501, far]),
-            };
+            let place = self.dice.below(numbers.len());
+            numbers[place] = spoiled(&mut self.dice, now, letter, &numbers, place);
         }
         self.put(letter, &numbers);
     }
@@ -500,8 +320,8 @@ impl Maker {
         write_line(letter, &numbers, &mut line);
         line.pop();
         let dice = &mut self.dice;
-        let field = 1 + 10 * dice.range(0, numbers.len() as i64 - 1) as usize;
-        let place = dice.range(0, line.len() as i64 - 1) as usize;
+        let field = 1 + COLUMNS * dice.below(numbers.len());
+        let place = dice.below(line.len());
         let byte = dice.range(0, 255) as u8;
         match dice.range(0, 15) {
             0 => line[0] = byte,
@@ -512,14 +332,14 @@ impl Maker {
             5 => drop(line.remove(place)),
             6 => line.push(dice.pick(b" \r\t0\0")),
             7 => line.extend_from_slice(b"         0"),
-            8 => line.truncate(line.len() - 10),
-            9 => line[field..field + 10].rotate_left(1),
-            10 => line.resize(dice.range(62, 200) as usize, dice.pick(b" 0x")),
+            8 => line.truncate(line.len() - COLUMNS),
+            9 => line[field..field + COLUMNS].rotate_left(1),
+            10 => line.resize(LONGEST + dice.range(1, 139) as usize, dice.pick(b" 0x")),
             11 => line.resize(LONGEST + dice.range(0, 3) as usize, b' '),
             _ => {
                 let texts: Vec<&str> = BAD_NUMBERS.split('|').collect();
                 let text = dice.pick(&texts);
-                line.splice(field..field + 10, format!("{text:>10}").into_bytes());
+                line.splice(field..field + COLUMNS, format!("{text:>10}").into_bytes());
             }
         }
         line.push(b'\n');
@@ -530,29 +350,27 @@ impl Maker {
     fn settle(&mut self, held: usize) {
         while self.held() < held {
             let id = self.new_id();
-            let sighting = self.sighting(Fleet::Any, id, self.now());
-            self.sight(b'A', &sighting);
+            self.sight(b'A', Fleet::Any, id, self.now());
         }
     }
 
     /// The full store and the one float too many.
     fn fill_up(&mut self) {
-        self.settle(1_023);
+        self.settle(MOST_HELD - 1);
         for _ in 0..3 {
-            self.settle(1_024);
-            let free = (1..=LAST_ID).rev();
+            self.settle(MOST_HELD);
             let ids: Vec<i64> = self.mirror.ledger().reports().map(|r| r.id).collect();
-            let free = free.into_iter().find(|id| !ids.contains(id)).unwrap_or(0);
+            let free = (1..=LAST_ID).rfind(|id| !ids.contains(id)).unwrap_or(0);
             let held = self.held_id();
             let now = self.now();
             self.put(b'A', &[free, now, 1, 1, 0, 0]);
             self.put(b'A', &[free, now + 40_000, 1, 1, 0, 0]);
             self.put(b'A', &[held, now, 1, 1, 0, 0]);
-            self.put(b'A', &[free, now, 1, 1, 0, 501]);
-            self.put(b'A', &[free, -1, 1, 1, 0, 501]);
+            self.put(b'A', &[free, now, 1, 1, 0, TOP_SPEED + 1]);
+            self.put(b'A', &[free, -1, 1, 1, 0, TOP_SPEED + 1]);
             self.put(b'U', &[held, now, 1, 1, 0, 0]);
-            for method in 0..4 {
-                self.put(b'Q', &[method, now, 0, 0, SEA, SEA]);
+            for method in 0..=LAST_METHOD {
+                self.put_ask(method, [now, 0, 0, SEA, SEA]);
             }
             let t = self.later(&[Pace::Still, Pace::Minutes, Pace::Jump]);
             self.put(b'D', &[held, t]);
@@ -560,18 +378,8 @@ impl Maker {
     }
 }
 
-fn sighting_numbers(s: &Sighting) -> [i64; 6] {
-    [s.id, s.t, s.at[0], s.at[1], s.speed[0], s.speed[1]]
-}
-
-/// A place and a speed toward the middle of the sea, such that over some hours
-/// a float falls short of it by about half a cell.
-fn graded(dice: &mut Dice, any: i64, t: i64) -> (i64, i64) {
-    let off = any - SEA / 2;
-    let hours = dice.pick(&[2, 3, 3, 3]);
-    let cells = off.abs() / WIDTH;
-    let speed = ((2 * cells - 1) * WIDTH / (2 * hours * PHASE)).clamp(0, TOP_SPEED);
-    let speed = -off.signum() * speed;
-    let at = any + speed * (t % PHASE);
-    (at.clamp(0, SEA), speed)
+/// A held report, where there is one.
+fn any_held(ledger: &Ledger, dice: &mut Dice) -> Option<Sighting> {
+    let number = dice.below(ledger.reports().len().max(1));
+    ledger.reports().nth(number).copied()
 }

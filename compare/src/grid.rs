@@ -1,14 +1,9 @@
-//! The grid: 32 columns by 32 rows of cells.
+//! The grid: columns and rows, cells, blocks of cells and the curve.
 //!
-//! A cell is numbered row by row here. No answer shows a cell's number, so the
-//! curve of the document is needed in the tests only.
+//! A cell is numbered row by row here, for no answer shows a cell's number. The
+//! document's curve numbers stand in buffers alone.
 
-pub const SIDE: usize = 32;
-pub const CELLS: usize = SIDE * SIDE;
-/// Width and height of a cell.
-pub const WIDTH: i64 = 262_144;
-/// The greatest coordinate in the sea.
-pub const SEA: i64 = 8_388_607;
+use crate::limits::{CELLS, SIDE, WIDTH};
 
 /// The column of an x, or the row of a y; the edge cells reach outward.
 pub fn column(x: i64) -> usize {
@@ -50,14 +45,12 @@ impl Block {
     pub fn runs(self) -> impl Iterator<Item = std::ops::RangeInclusive<usize>> {
         let [first, last] = [self.low[0], self.high[0]];
         let rows = self.low[1]..=self.high[1];
-        rows.map(move |row| row * SIDE + first..=row * SIDE + last)
-            .filter(|run| !run.is_empty())
+        rows.map(move |row| row * SIDE + first..=row * SIDE + last).filter(|run| !run.is_empty())
     }
 }
 
-/// The number of (x, y) on the Hilbert curve through a square of the given
-/// side. No answer of the ledger shows it; buffers do.
-pub fn curve(side: usize, x: usize, y: usize) -> usize {
+/// The number of (x, y) on the Hilbert curve through a square of the given side.
+const fn curve(side: usize, x: usize, y: usize) -> usize {
     if side == 1 {
         return 0;
     }
@@ -71,22 +64,30 @@ pub fn curve(side: usize, x: usize, y: usize) -> usize {
     }
 }
 
+static CURVE: [usize; CELLS] = {
+    let mut numbers = [0; CELLS];
+    let mut cell = 0;
+    while cell < CELLS {
+        numbers[cell] = curve(SIDE, cell % SIDE, cell / SIDE);
+        cell += 1;
+    }
+    numbers
+};
+
+/// The curve number of a cell.
+pub fn curve_number(cell: usize) -> usize {
+    CURVE[cell]
+}
+
 #[cfg(test)]
 mod tests {
     use super::*;
 
     #[test]
     fn p1_to_p6_curve_numbers() {
-        let cases = [
-            (0, 0, 0),
-            (0, 1, 1),
-            (1, 0, 3),
-            (0, 31, 341),
-            (31, 31, 682),
-            (16, 0, 938),
-        ];
+        let cases = [(0, 0, 0), (0, 1, 1), (1, 0, 3), (0, 31, 341), (31, 31, 682), (16, 0, 938)];
         for (x, y, number) in cases {
-            assert_eq!(curve(SIDE, x, y), number);
+            assert_eq!(curve_number(y * SIDE + x), number);
         }
     }
 
@@ -94,8 +95,7 @@ mod tests {
     fn the_curve_visits_each_cell_once_and_goes_to_neighbours() {
         let mut visited = vec![None; CELLS];
         for cell in 0..CELLS {
-            let [x, y] = places(cell);
-            let old = visited[curve(SIDE, x, y)].replace([x, y]);
+            let old = visited[curve_number(cell)].replace(places(cell));
             assert_eq!(old, None);
         }
         for pair in visited.windows(2) {

@@ -6,15 +6,11 @@
 //! made and emptied when its phase comes to life, which is the same; the tests
 //! keep the list too and compare.
 
-use crate::grid::{cell, Rectangle, CELLS, SEA};
+use crate::grid::{cell, Rectangle};
+use crate::limits::{ASK_AFTER, ASK_BEFORE, CELLS, LAST_ID, LAST_METHOD, LAST_TIME};
+use crate::limits::{MOST_HELD, PHASE, SEA, SLOTS, TOP_SPEED};
 use crate::methods::{bounds, Choice, Row, Wrong};
 use std::collections::BTreeMap;
-
-pub const LAST_TIME: i64 = 999_999_999;
-pub const LAST_ID: i64 = 65_535;
-pub const MOST_HELD: usize = 1_024;
-pub const TOP_SPEED: i64 = 500;
-pub const PHASE: i64 = 3_600;
 
 /// What a float reported: its id, the time, its position and its speed.
 #[derive(Clone, Copy, Debug, PartialEq, Eq)]
@@ -56,12 +52,7 @@ pub enum Answer {
     /// A refusal's number and its value.
     Refused(i64, i64),
     /// An accepted ask.
-    Listed {
-        ids: Vec<i64>,
-        cells: usize,
-        useful: usize,
-        rounds: usize,
-    },
+    Listed { ids: Vec<i64>, cells: usize, useful: usize, rounds: usize },
 }
 
 /// A held report with the phase and cell in which it is placed.
@@ -76,32 +67,28 @@ impl Held {
     /// The report placed in a phase.
     pub fn placed(report: Sighting, phase: i64) -> Held {
         let cell = cell(report.position(PHASE * phase));
-        Held {
-            report,
-            phase,
-            cell,
-        }
+        Held { report, phase, cell }
     }
 }
 
 pub struct Ledger {
     now: i64,
     held: BTreeMap<i64, Held>,
-    /// Phase p has the rows at the remainder of p by 3.
-    rows: [Vec<Row>; 3],
-    wrong: Wrong,
+    /// The rows of a phase stand at its slot.
+    rows: [Vec<Row>; SLOTS],
+    wrong: Option<Wrong>,
     #[cfg(test)]
     placements: Vec<(i64, usize, [i64; 2])>,
 }
 
-/// The remainder of a phase by 3.
+/// Where the rows of a phase are kept: the remainder by the number of slots.
 pub fn slot(phase: i64) -> usize {
-    (phase % 3) as usize
+    (phase % SLOTS as i64) as usize
 }
 
 /// The live phases when c is the current one, oldest first.
 pub fn live(c: i64) -> std::ops::RangeInclusive<i64> {
-    (c - 2).max(0)..=c
+    (c - SLOTS as i64 + 1).max(0)..=c
 }
 
 fn check(holds: bool, number: i64) -> Result<(), i64> {
@@ -124,27 +111,32 @@ fn sighting_in_range(s: &Sighting) -> bool {
 
 fn ask_in_range(ask: &Ask) -> bool {
     let Rectangle { low, high } = ask.rectangle;
-    (0..=3).contains(&ask.method)
+    (0..=LAST_METHOD).contains(&ask.method)
         && low.iter().chain(&high).all(|x| (0..=SEA).contains(x))
         && (0..2).all(|axis| low[axis] <= high[axis])
 }
 
 impl Ledger {
     /// The ledger opened at 0.
-    pub fn new(wrong: Wrong) -> Ledger {
+    pub fn new(wrong: Option<Wrong>) -> Ledger {
         Ledger {
             now: 0,
             held: BTreeMap::new(),
-            rows: [0; 3].map(|_| vec![Row::EMPTY; CELLS]),
+            rows: [0; SLOTS].map(|_| vec![Row::EMPTY; CELLS]),
             wrong,
             #[cfg(test)]
             placements: Vec::new(),
         }
     }
 
-    /// A ledger taken up in the middle of a list: its time, held reports and,
-    /// for each remainder of a phase by 3, the rows of the cells.
-    pub fn kept(now: i64, held: Vec<Held>, rows: [Vec<Row>; 3], wrong: Wrong) -> Ledger {
+    /// A ledger taken up in the middle of a list: its time, held reports and the
+    /// rows of each slot's cells.
+    pub fn kept(
+        now: i64,
+        held: Vec<Held>,
+        rows: [Vec<Row>; SLOTS],
+        wrong: Option<Wrong>,
+    ) -> Ledger {
         Ledger {
             now,
             held: held.into_iter().map(|h| (h.report.id, h)).collect(),
@@ -162,9 +154,9 @@ impl Ledger {
         self.held.values()
     }
 
-    /// The rows of the phases with this remainder by 3.
-    pub fn rows(&self, slot: usize) -> &[Row] {
-        &self.rows[slot]
+    /// The rows of each slot's cells.
+    pub fn rows(&self) -> &[Vec<Row>; SLOTS] {
+        &self.rows
     }
 
     /// The held reports, ids rising.
@@ -196,10 +188,7 @@ impl Ledger {
 
     fn open(&mut self, t: i64) -> Result<(), i64> {
         check((0..=LAST_TIME).contains(&t), 3)?;
-        *self = Ledger {
-            now: t,
-            ..Ledger::new(self.wrong)
-        };
+        *self = Ledger { now: t, ..Ledger::new(self.wrong) };
         Ok(())
     }
 
@@ -234,7 +223,7 @@ impl Ledger {
         check(self.held.contains_key(&id), 6)?;
         self.step(t);
         let gone = self.held.remove(&id);
-        if let (Wrong::NarrowedDrop, Some(gone)) = (self.wrong, gone) {
+        if let (Some(Wrong::NarrowedDrop), Some(gone)) = (self.wrong, gone) {
             let left = self.held.values();
             let left = left.filter(|held| held.phase == gone.phase && held.cell == gone.cell);
             let left: Vec<Row> = left.map(|held| Row::one(held.report.speed)).collect();
@@ -244,11 +233,11 @@ impl Ledger {
     }
 
     fn ask(&self, ask: &Ask) -> Result<Answer, i64> {
-        let near = (self.now - 3_600..=self.now + 7_200).contains(&ask.time);
+        let near = (self.now - ASK_BEFORE..=self.now + ASK_AFTER).contains(&ask.time);
         check(near && (0..=LAST_TIME).contains(&ask.time), 3)?;
         check(ask_in_range(ask), 4)?;
         let mut ids = Vec::new();
-        let mut seen = [[false; CELLS]; 3];
+        let mut seen = [[false; CELLS]; SLOTS];
         let mut useful = 0;
         for held in self.held.values() {
             if ask.rectangle.holds(held.report.position(ask.time)) {
@@ -259,20 +248,14 @@ impl Ledger {
             }
         }
         let (mut cells, mut rounds) = (0, 0);
-        for phase in live(self.now / PHASE) {
-            if self.wrong == Wrong::SkippedPhase && phase == self.now / PHASE - 2 {
-                continue;
-            }
+        let three = live(self.now / PHASE).count() == SLOTS;
+        let skipped = three && self.wrong == Some(Wrong::SkippedPhase);
+        for phase in live(self.now / PHASE).skip(skipped.into()) {
             let chosen = self.choice(ask, phase).choose(ask.method);
             cells += chosen.cells.len();
             rounds += chosen.rounds;
         }
-        Ok(Answer::Listed {
-            ids,
-            cells,
-            useful,
-            rounds,
-        })
+        Ok(Answer::Listed { ids, cells, useful, rounds })
     }
 
     fn choice(&self, ask: &Ask, phase: i64) -> Choice<'_> {
@@ -299,8 +282,9 @@ impl Ledger {
             self.rows[slot(phase)].fill(Row::EMPTY);
         }
         #[cfg(test)]
-        self.placements.retain(|(phase, ..)| *phase >= c - 2);
-        let old = self.held.values().filter(|held| held.phase < c - 2);
+        self.placements.retain(|(phase, ..)| live(c).contains(phase));
+        let old = self.held.values();
+        let old = old.filter(|held| !live(c).contains(&held.phase));
         let old: Vec<Sighting> = old.map(|held| held.report).collect();
         for report in &old {
             self.place(report);

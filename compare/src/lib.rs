@@ -1,22 +1,41 @@
-//! The plain ledger of document 01, in plain Rust and written from that
-//! document alone, and the means to compare another program with it.
+//! The plain ledger of document 01, and the means to compare another program
+//! with it.
 //!
-//! - `grid`: columns, cells and blocks of cells.
+//! The ledger was written from that document alone. It shares no code with the
+//! index, its twin in bench/ or the buffers that boundary/ lends, not even a
+//! constant; only dice come from another crate, for the lists.
+//!
+//! - `limits`: the document's numbers.
+//! - `grid`: columns, cells, blocks of cells and the curve.
 //! - `methods`: speed rows and the four ways to choose cells.
 //! - `ledger`: the calls and their answers.
 //! - `lines`: call lines read, call and answer lines written.
 //! - `stream`: a run of bytes in, a run of bytes out.
+//! - `calls`: numbers for calls, good and bad, from dice.
 //! - `generate`: lists of call lines from fixed seeds.
-//!
-//! Programs: `ledger` answers call lines from standard input, `compare` runs
-//! another such program and compares every byte.
 
+pub mod calls;
 pub mod generate;
 pub mod grid;
 pub mod ledger;
+pub mod limits;
 pub mod lines;
 pub mod methods;
 pub mod stream;
+
+/// An enum of plain cases, and `ALL`, the list of them.
+#[macro_export]
+macro_rules! listed {
+    ($(#[$of:meta])* pub enum $name:ident { $($(#[$on:meta])* $case:ident,)* }) => {
+        $(#[$of])*
+        #[derive(Clone, Copy, Debug, PartialEq, Eq)]
+        pub enum $name { $($(#[$on])* $case,)* }
+
+        impl $name {
+            pub const ALL: &[$name] = &[$($name::$case,)*];
+        }
+    };
+}
 
 /// The document's listing: call lines and the answers to them.
 pub const LISTING: (&str, &str) = (

@@ -4,56 +4,56 @@ use crate::grid::Rectangle;
 use crate::ledger::{Answer, Ask, Call, Sighting};
 
 /// The columns of a number.
-const COLUMNS: usize = 10;
-const LEAST: i64 = -999_999_999;
-const GREATEST: i64 = 2_147_483_647;
-/// The longest call line: a letter and six numbers.
-pub const LONGEST: usize = 1 + 6 * COLUMNS;
-
-/// How many numbers follow a letter.
-pub fn count(letter: u8) -> Option<usize> {
-    match letter {
-        b'O' | b'C' => Some(1),
-        b'D' => Some(2),
-        b'A' | b'U' | b'Q' => Some(6),
-        _ => None,
-    }
-}
+pub const COLUMNS: usize = 10;
+pub const LEAST: i64 = -999_999_999;
+pub const GREATEST: i64 = 2_147_483_647;
+/// The most numbers of a call.
+const MOST: usize = 6;
+/// The longest call line: a letter and its numbers.
+pub const LONGEST: usize = 1 + MOST * COLUMNS;
 
 /// The call on a line without its newline, if the line is one.
 pub fn read_call(line: &[u8]) -> Option<Call> {
     let (&letter, rest) = line.split_first()?;
-    if rest.len() != COLUMNS * count(letter)? {
-        return None;
-    }
-    let mut n = [0; 6];
-    for (number, field) in n.iter_mut().zip(rest.chunks(COLUMNS)) {
+    let (fields, cut_off) = rest.as_chunks::<COLUMNS>();
+    let mut numbers = [0; MOST];
+    let numbers = numbers.get_mut(..fields.len())?;
+    for (number, field) in numbers.iter_mut().zip(fields) {
         *number = read_number(field)?;
     }
-    let sighting = Sighting {
-        id: n[0],
-        t: n[1],
-        at: [n[2], n[3]],
-        speed: [n[4], n[5]],
-    };
-    Some(match letter {
-        b'O' => Call::Open { t: n[0] },
-        b'C' => Call::Clock { t: n[0] },
-        b'D' => Call::Drop { id: n[0], t: n[1] },
-        b'A' => Call::Add(sighting),
-        b'U' => Call::Report(sighting),
-        _ => Call::Ask(Ask {
-            method: n[0],
-            time: n[1],
-            rectangle: Rectangle {
-                low: [n[2], n[3]],
-                high: [n[4], n[5]],
-            },
-        }),
-    })
+    call(letter, numbers).filter(|_| cut_off.is_empty())
 }
 
-fn read_number(field: &[u8]) -> Option<i64> {
+/// The call of a letter and the numbers that follow it.
+pub fn call(letter: u8, numbers: &[i64]) -> Option<Call> {
+    let call = match (letter, numbers) {
+        (b'O', &[t]) => Call::Open { t },
+        (b'C', &[t]) => Call::Clock { t },
+        (b'D', &[id, t]) => Call::Drop { id, t },
+        (b'A' | b'U', &[id, t, x, y, vx, vy]) => {
+            let (at, speed) = ([x, y], [vx, vy]);
+            let sighting = Sighting { id, t, at, speed };
+            match letter {
+                b'A' => Call::Add(sighting),
+                _ => Call::Report(sighting),
+            }
+        }
+        (b'Q', &[method, time, low_x, low_y, high_x, high_y]) => Call::Ask(Ask {
+            method,
+            time,
+            rectangle: Rectangle { low: [low_x, low_y], high: [high_x, high_y] },
+        }),
+        _ => return None,
+    };
+    Some(call)
+}
+
+/// The numbers of an add or a report.
+pub fn sighting_numbers(s: &Sighting) -> [i64; 6] {
+    [s.id, s.t, s.at[0], s.at[1], s.speed[0], s.speed[1]]
+}
+
+fn read_number(field: &[u8; COLUMNS]) -> Option<i64> {
     let start = field.iter().position(|byte| *byte != b' ')?;
     let (negative, digits) = match &field[start..] {
         [b'-', digits @ ..] => (true, digits),
@@ -90,7 +90,7 @@ fn write_number(number: i64, out: &mut Vec<u8>) {
 }
 
 /// Writes a letter and numbers as a line.
-pub fn write_line(letter: u8, numbers: &[i64], out: &mut Vec<u8>) {
+pub fn write_line<'a>(letter: u8, numbers: impl IntoIterator<Item = &'a i64>, out: &mut Vec<u8>) {
     out.push(letter);
     for number in numbers {
         write_number(*number, out);
@@ -98,42 +98,14 @@ pub fn write_line(letter: u8, numbers: &[i64], out: &mut Vec<u8>) {
     out.push(b'\n');
 }
 
-/// The letter and the numbers of a call.
-pub fn numbers(call: &Call) -> (u8, Vec<i64>) {
-    let of = |s: &Sighting| vec![s.id, s.t, s.at[0], s.at[1], s.speed[0], s.speed[1]];
-    match call {
-        Call::Open { t } => (b'O', vec![*t]),
-        Call::Clock { t } => (b'C', vec![*t]),
-        Call::Drop { id, t } => (b'D', vec![*id, *t]),
-        Call::Add(sighting) => (b'A', of(sighting)),
-        Call::Report(sighting) => (b'U', of(sighting)),
-        Call::Ask(ask) => {
-            let Rectangle { low, high } = ask.rectangle;
-            let corners = [low[0], low[1], high[0], high[1]];
-            (b'Q', [&[ask.method, ask.time], &corners[..]].concat())
-        }
-    }
-}
-
 /// Writes the answer to the call that came with this letter.
 pub fn write_answer(letter: u8, answer: &Answer, out: &mut Vec<u8>) {
     match answer {
         Answer::Accepted(value) => write_line(letter, &[0, *value], out),
         Answer::Refused(number, value) => write_line(letter, &[*number, *value], out),
-        Answer::Listed {
-            ids,
-            cells,
-            useful,
-            rounds,
-        } => {
-            out.push(letter);
-            for number in [0, ids.len(), *cells, *useful, *rounds] {
-                write_number(number as i64, out);
-            }
-            for id in ids {
-                write_number(*id, out);
-            }
-            out.push(b'\n');
+        Answer::Listed { ids, cells, useful, rounds } => {
+            let counts = [0, ids.len(), *cells, *useful, *rounds].map(|count| count as i64);
+            write_line(letter, counts.iter().chain(ids), out);
         }
     }
 }
@@ -172,13 +144,7 @@ mod tests {
         for text in cases {
             assert_eq!(number(&format!("{text:>10}")), None, "{text:?}");
         }
-        let wide = [
-            "2147483648",
-            "9999999999",
-            "0000000005",
-            "-000000005",
-            "5         ",
-        ];
+        let wide = ["2147483648", "9999999999", "0000000005", "-000000005", "5         "];
         for text in wide {
             assert_eq!(number(text), None, "{text:?}");
         }
@@ -203,14 +169,13 @@ mod tests {
 
     #[test]
     fn a_written_call_line_is_read_as_that_call() {
-        for letter in *b"OCDAUQ" {
+        for (letter, count) in [(b'O', 1), (b'C', 1), (b'D', 2), (b'A', 6), (b'U', 6), (b'Q', 6)] {
             for n in [LEAST, -1, 0, 1, 65_535, GREATEST] {
                 let mut line = Vec::new();
-                let fields = (1..=count(letter).unwrap() as i64).map(|i| n / i);
-                let fields: Vec<i64> = fields.collect();
-                write_line(letter, &fields, &mut line);
-                let call = read_call(&line[..line.len() - 1]).unwrap();
-                assert_eq!(numbers(&call), (letter, fields));
+                let numbers: Vec<i64> = (1..=count).map(|i| n / i).collect();
+                write_line(letter, &numbers, &mut line);
+                let read = read_call(&line[..line.len() - 1]);
+                assert!(read.is_some() && read == call(letter, &numbers));
             }
         }
     }

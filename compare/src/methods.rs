@@ -1,20 +1,20 @@
 //! Speed rows, and the four ways to choose the cells of a phase.
 
-use crate::grid::{places, Block, Rectangle, SIDE, WIDTH};
+use crate::grid::{column, places, Block, Rectangle};
+use crate::limits::{SIDE, TOP_SPEED, WIDTH};
 
-/// A wrong rule, to see whether a comparison finds it.
-#[derive(Clone, Copy, Debug, PartialEq, Eq)]
-pub enum Wrong {
-    /// No wrong rule: the document's ledger.
-    Nothing,
-    /// The formulas for d below 0 take d itself and not its size.
-    SignedBack,
-    /// The edge cells end at the edge of the sea.
-    EndedEdges,
-    /// A row narrows when a float placed in it is dropped.
-    NarrowedDrop,
-    /// An ask leaves out the oldest of three live phases.
-    SkippedPhase,
+crate::listed! {
+    /// A wrong rule, to see whether a comparison finds it.
+    pub enum Wrong {
+        /// The formulas for d below 0 take d itself and not its size.
+        SignedBack,
+        /// The edge cells end at the edge of the sea.
+        EndedEdges,
+        /// A row narrows when a float placed in it is dropped.
+        NarrowedDrop,
+        /// An ask leaves out the oldest of three live phases.
+        SkippedPhase,
+    }
 }
 
 /// Least and greatest speed on either axis.
@@ -25,17 +25,12 @@ pub struct Row {
 }
 
 impl Row {
-    pub const EMPTY: Row = Row {
-        least: [501; 2],
-        greatest: [-501; 2],
-    };
+    pub const EMPTY: Row =
+        Row { least: [TOP_SPEED as i16 + 1; 2], greatest: [-TOP_SPEED as i16 - 1; 2] };
 
     pub fn one(speed: [i64; 2]) -> Row {
         let speed = speed.map(|v| v as i16);
-        Row {
-            least: speed,
-            greatest: speed,
-        }
+        Row { least: speed, greatest: speed }
     }
 
     pub fn is_empty(&self) -> bool {
@@ -47,10 +42,7 @@ impl Row {
         let (a, b) = (self, other);
         Row {
             least: [a.least[0].min(b.least[0]), a.least[1].min(b.least[1])],
-            greatest: [
-                a.greatest[0].max(b.greatest[0]),
-                a.greatest[1].max(b.greatest[1]),
-            ],
+            greatest: [a.greatest[0].max(b.greatest[0]), a.greatest[1].max(b.greatest[1])],
         }
     }
 
@@ -61,11 +53,7 @@ impl Row {
 
 /// The bounds of some rows; the empty row stands for no bounds.
 pub fn bounds(rows: &[Row]) -> Row {
-    let mut all = Row::EMPTY;
-    for row in rows {
-        all = all.join(*row);
-    }
-    all
+    rows.iter().fold(Row::EMPTY, |all, row| all.join(*row))
 }
 
 /// The cells that a method chose in a phase, and its rounds.
@@ -81,7 +69,7 @@ pub struct Choice<'a> {
     pub rows: &'a [Row],
     pub rectangle: Rectangle,
     pub d: i64,
-    pub wrong: Wrong,
+    pub wrong: Option<Wrong>,
 }
 
 impl Choice<'_> {
@@ -108,11 +96,8 @@ impl Choice<'_> {
     }
 
     fn block_bounds(&self, block: Block) -> Row {
-        let mut all = Row::EMPTY;
-        for run in block.runs() {
-            all = all.join(bounds(&self.rows[run]));
-        }
-        all
+        let runs = block.runs().map(|run| bounds(&self.rows[run]));
+        runs.fold(Row::EMPTY, Row::join)
     }
 
     fn narrow(&self, naive: Block) -> Option<Block> {
@@ -142,17 +127,14 @@ impl Choice<'_> {
     /// The size of d, for the formulas with d below 0.
     fn size(&self) -> i64 {
         match self.wrong {
-            Wrong::SignedBack => self.d,
+            Some(Wrong::SignedBack) => self.d,
             _ => self.d.abs(),
         }
     }
 
     /// The block of the rectangle expanded by bounds.
     fn expand(&self, by: Row) -> Block {
-        let mut block = Block {
-            low: [0; 2],
-            high: [0; 2],
-        };
+        let mut block = Block { low: [0; 2], high: [0; 2] };
         for axis in 0..2 {
             let (least, greatest) = by.span(axis);
             let (low, high) = (self.rectangle.low[axis], self.rectangle.high[axis]);
@@ -161,8 +143,8 @@ impl Choice<'_> {
             } else {
                 (low + least * self.size(), high + greatest * self.size())
             };
-            block.low[axis] = crate::grid::column(low);
-            block.high[axis] = crate::grid::column(high);
+            block.low[axis] = column(low);
+            block.high[axis] = column(high);
         }
         block
     }
@@ -184,7 +166,7 @@ impl Choice<'_> {
         } else {
             (low - greatest * self.size(), high - least * self.size())
         };
-        let ended = self.wrong == Wrong::EndedEdges;
+        let ended = self.wrong == Some(Wrong::EndedEdges);
         let endless_low = place == 0 && !ended;
         let endless_high = place == SIDE - 1 && !ended;
         (endless_low || low <= self.rectangle.high[axis])

@@ -1,6 +1,7 @@
 //! A run of bytes answered line by line, in pieces of any length.
 
-use crate::ledger::{Ledger, MOST_HELD};
+use crate::ledger::Ledger;
+use crate::limits::MOST_HELD;
 use crate::lines::{read_call, write_answer, write_unread, LONGEST};
 use crate::methods::Wrong;
 use std::io::{Read, Result, Write};
@@ -12,11 +13,8 @@ pub struct Stream {
 }
 
 impl Stream {
-    pub fn new(wrong: Wrong) -> Stream {
-        Stream {
-            ledger: Ledger::new(wrong),
-            begun: Vec::new(),
-        }
+    pub fn new(wrong: Option<Wrong>) -> Stream {
+        Stream { ledger: Ledger::new(wrong), begun: Vec::new() }
     }
 
     pub fn ledger(&self) -> &Ledger {
@@ -57,7 +55,7 @@ impl Stream {
 }
 
 /// The whole answer to a whole input.
-pub fn answers(input: &[u8], wrong: Wrong) -> Vec<u8> {
+pub fn answers(input: &[u8], wrong: Option<Wrong>) -> Vec<u8> {
     let mut out = Vec::new();
     let mut stream = Stream::new(wrong);
     stream.feed(input, &mut out);
@@ -67,7 +65,7 @@ pub fn answers(input: &[u8], wrong: Wrong) -> Vec<u8> {
 
 /// Answers an input to its end, writing after each piece that arrives.
 pub fn serve(input: &mut impl Read, output: &mut impl Write) -> Result<()> {
-    let mut stream = Stream::new(Wrong::Nothing);
+    let mut stream = Stream::new(None);
     let mut piece = vec![0; 1 << 16];
     let mut out = Vec::new();
     loop {

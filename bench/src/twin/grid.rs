@@ -1,11 +1,7 @@
-//! Columns, cells, their curve numbers, and where a float is.
+//! Columns, cells, their curve numbers, and rectangles.
 
-pub const SIDE: usize = 32;
-pub const CELLS: usize = SIDE * SIDE;
-/// Width and height of a cell.
-pub const WIDTH: i64 = 262_144;
-/// The greatest coordinate in the sea.
-pub const SEA: i32 = 8_388_607;
+use buffers::{CELLS, SIDE, WIDTH};
+use float_index::Rectangle;
 
 const fn number(side: usize, x: usize, y: usize) -> usize {
     if side == 1 {
@@ -39,7 +35,7 @@ pub fn curve_number(column: usize, row: usize) -> usize {
 
 /// The column of an x, or the row of a y; the edge cells reach outward.
 pub fn column(x: i64) -> usize {
-    x.div_euclid(WIDTH).clamp(0, SIDE as i64 - 1) as usize
+    x.div_euclid(WIDTH.into()).clamp(0, SIDE as i64 - 1) as usize
 }
 
 /// From low to high along one axis, both included.
@@ -50,10 +46,21 @@ pub struct Range {
 }
 
 impl Range {
-    pub fn holds(&self, x: i64) -> bool {
+    fn holds(&self, x: i64) -> bool {
         self.low <= x && x <= self.high
     }
 }
 
 /// A rectangle by its axes.
-pub type Rect = [Range; 2];
+pub struct Rect(pub [Range; 2]);
+
+impl Rect {
+    pub fn new(q: Rectangle) -> Rect {
+        let range = |low: i32, high: i32| Range { low: low.into(), high: high.into() };
+        Rect([range(q.low_x, q.high_x), range(q.low_y, q.high_y)])
+    }
+
+    pub fn holds(&self, [x, y]: [i64; 2]) -> bool {
+        self.0[0].holds(x) && self.0[1].holds(y)
+    }
+}

@@ -1,7 +1,8 @@
 //! The four ways to choose cells.
 
-use super::grid::{column, curve_number, Range, Rect, CELLS, SIDE, WIDTH};
-use super::rows::{join, Row, EMPTY};
+use super::grid::{column, curve_number, Range, Rect};
+use super::rows::join;
+use buffers::{Row, CELLS, EMPTY, SIDE, WIDTH};
 
 /// Every cell from one column and row to another.
 #[derive(Clone, Copy)]
@@ -20,8 +21,7 @@ impl Block {
     }
 
     fn bounds(self, rows: &[Row]) -> Row {
-        self.cells()
-            .fold(EMPTY, |all, (number, _)| join(all, rows[number]))
+        self.cells().fold(EMPTY, |all, (number, _)| join(all, rows[number]))
     }
 }
 
@@ -46,9 +46,7 @@ impl Choice<'_> {
             1 => (self.narrow(naive), 0),
             2 => self.iterate(naive),
             _ => {
-                let reached = naive
-                    .cells()
-                    .filter(|(number, at)| self.meets(*number, *at));
+                let reached = naive.cells().filter(|(number, at)| self.meets(*number, *at));
                 reached.for_each(|(number, _)| marks[number] = true);
                 return 0;
             }
@@ -81,16 +79,9 @@ impl Choice<'_> {
 
     /// What reaches the rectangle's span of an axis at speeds of a row.
     fn reach(&self, axis: usize, row: &Row) -> Range {
-        let (least, greatest) = (i64::from(row[2 * axis]), i64::from(row[2 * axis + 1]));
-        let (fast, slow) = if self.d >= 0 {
-            (greatest, least)
-        } else {
-            (least, greatest)
-        };
-        Range {
-            low: self.q[axis].low - fast * self.d,
-            high: self.q[axis].high - slow * self.d,
-        }
+        let [least, greatest] = row[axis].map(i64::from);
+        let (fast, slow) = if self.d >= 0 { (greatest, least) } else { (least, greatest) };
+        Range { low: self.q.0[axis].low - fast * self.d, high: self.q.0[axis].high - slow * self.d }
     }
 
     fn expand(&self, bounds: &Row) -> Block {
@@ -108,7 +99,8 @@ impl Choice<'_> {
 
     fn meets_on(&self, axis: usize, row: &Row, place: usize) -> bool {
         let reach = self.reach(axis, row);
-        let low = WIDTH * place as i64;
-        (place == 0 || low <= reach.high) && (place == SIDE - 1 || reach.low < low + WIDTH)
+        let width = i64::from(WIDTH);
+        let low = width * place as i64;
+        (place == 0 || low <= reach.high) && (place == SIDE - 1 || reach.low < low + width)
     }
 }

@@ -66,7 +66,7 @@ pub mod refusal {
 
 /// What a call gives back.
 #[repr(C)]
-#[derive(Clone, Copy, Debug, PartialEq, Eq)]
+#[derive(Clone, Copy, Debug, Default, PartialEq, Eq)]
 #[must_use]
 pub struct Reply {
     /// 0 where the call is accepted, else the number of the refusal.
@@ -114,64 +114,26 @@ pub struct Rectangle {
 mod exported {
     use super::Reply;
 
+    #[rustfmt::skip]
     extern "C" {
-        pub fn float_index_open(s: *mut i32, sn: usize, t: *mut i16, tn: usize, time: i32)
-            -> Reply;
-        pub fn float_index_clock(
-            s: *mut i32,
-            sn: usize,
-            t: *mut i16,
-            tn: usize,
-            time: i32,
-        ) -> Reply;
-        pub fn float_index_add(
-            s: *mut i32,
-            sn: usize,
-            t: *mut i16,
-            tn: usize,
-            id: i32,
-            time: i32,
-            x: i32,
-            y: i32,
-            vx: i32,
-            vy: i32,
-        ) -> Reply;
-        pub fn float_index_report(
-            s: *mut i32,
-            sn: usize,
-            t: *mut i16,
-            tn: usize,
-            id: i32,
-            time: i32,
-            x: i32,
-            y: i32,
-            vx: i32,
-            vy: i32,
-        ) -> Reply;
-        pub fn float_index_drop(
-            s: *mut i32,
-            sn: usize,
-            t: *mut i16,
-            tn: usize,
-            id: i32,
-            time: i32,
-        ) -> Reply;
-        pub fn float_index_ask(
-            s: *const i32,
-            sn: usize,
-            t: *const i16,
-            tn: usize,
-            list: *mut u16,
-            ids: usize,
-            method: i32,
-            asked: i32,
-            low_x: i32,
-            low_y: i32,
-            high_x: i32,
-            high_y: i32,
-        ) -> Reply;
+        pub fn float_index_open(s: *mut i32, sn: usize, t: *mut i16, tn: usize, time: i32) -> Reply;
+        pub fn float_index_clock(s: *mut i32, sn: usize, t: *mut i16, tn: usize, time: i32) -> Reply;
+        pub fn float_index_add(s: *mut i32, sn: usize, t: *mut i16, tn: usize,
+            id: i32, time: i32, x: i32, y: i32, vx: i32, vy: i32) -> Reply;
+        pub fn float_index_report(s: *mut i32, sn: usize, t: *mut i16, tn: usize,
+            id: i32, time: i32, x: i32, y: i32, vx: i32, vy: i32) -> Reply;
+        pub fn float_index_drop(s: *mut i32, sn: usize, t: *mut i16, tn: usize,
+            id: i32, time: i32) -> Reply;
+        pub fn float_index_ask(s: *const i32, sn: usize, t: *const i16, tn: usize,
+            list: *mut u16, ids: usize, method: i32, asked: i32,
+            low_x: i32, low_y: i32, high_x: i32, high_y: i32) -> Reply;
         pub fn float_index_is_sound(s: *const i32, sn: usize, t: *const i16, tn: usize) -> bool;
     }
+}
+
+/// Both buffers as the exported functions take them.
+fn lent(store: &mut [i32], table: &mut [i16]) -> (*mut i32, usize, *mut i16, usize) {
+    (store.as_mut_ptr(), store.len(), table.as_mut_ptr(), table.len())
 }
 
 // SAFETY, for each function below: the exported function is proved for slices
@@ -181,12 +143,7 @@ mod exported {
 /// Opens the index at time `t`, whatever the buffers held: no float is held and
 /// every row is empty. Gives 0. Refused with 1 and 3 only.
 pub fn open(store: &mut [i32], table: &mut [i16], t: i32) -> Reply {
-    let (s, sn, w, wn) = (
-        store.as_mut_ptr(),
-        store.len(),
-        table.as_mut_ptr(),
-        table.len(),
-    );
+    let (s, sn, w, wn) = lent(store, table);
     unsafe { exported::float_index_open(s, sn, w, wn, t) }
 }
 
@@ -195,64 +152,28 @@ pub fn open(store: &mut [i32], table: &mut [i16], t: i32) -> Reply {
 /// the floats of phases that are no longer live are placed in the current one.
 /// Refused with 1, 2 and 3.
 pub fn clock(store: &mut [i32], table: &mut [i16], t: i32) -> Reply {
-    let (s, sn, w, wn) = (
-        store.as_mut_ptr(),
-        store.len(),
-        table.as_mut_ptr(),
-        table.len(),
-    );
+    let (s, sn, w, wn) = lent(store, table);
     unsafe { exported::float_index_clock(s, sn, w, wn, t) }
 }
 
 /// A float that is not held sends its first report; the clock goes to its time
 /// first. Gives the floats held. Refused with 1, 2, 3, 4, 5 and 7.
-pub fn add(store: &mut [i32], table: &mut [i16], report: Report) -> Reply {
-    let (s, sn, w, wn) = (
-        store.as_mut_ptr(),
-        store.len(),
-        table.as_mut_ptr(),
-        table.len(),
-    );
-    let Report {
-        id,
-        t,
-        x,
-        y,
-        vx,
-        vy,
-    } = report;
-    unsafe { exported::float_index_add(s, sn, w, wn, id, t, x, y, vx, vy) }
+pub fn add(store: &mut [i32], table: &mut [i16], r: Report) -> Reply {
+    let (s, sn, w, wn) = lent(store, table);
+    unsafe { exported::float_index_add(s, sn, w, wn, r.id, r.t, r.x, r.y, r.vx, r.vy) }
 }
 
 /// A held float sends a new report, which replaces the one before; the clock
 /// goes to its time first. Gives the floats held. Refused with 1, 2, 3, 4 and 6.
-pub fn report(store: &mut [i32], table: &mut [i16], report: Report) -> Reply {
-    let (s, sn, w, wn) = (
-        store.as_mut_ptr(),
-        store.len(),
-        table.as_mut_ptr(),
-        table.len(),
-    );
-    let Report {
-        id,
-        t,
-        x,
-        y,
-        vx,
-        vy,
-    } = report;
-    unsafe { exported::float_index_report(s, sn, w, wn, id, t, x, y, vx, vy) }
+pub fn report(store: &mut [i32], table: &mut [i16], r: Report) -> Reply {
+    let (s, sn, w, wn) = lent(store, table);
+    unsafe { exported::float_index_report(s, sn, w, wn, r.id, r.t, r.x, r.y, r.vx, r.vy) }
 }
 
 /// A held float is taken out; the clock goes to `t` first. Gives the floats
 /// held. Refused with 1, 2, 3, 4 and 6.
 pub fn drop(store: &mut [i32], table: &mut [i16], id: i32, t: i32) -> Reply {
-    let (s, sn, w, wn) = (
-        store.as_mut_ptr(),
-        store.len(),
-        table.as_mut_ptr(),
-        table.len(),
-    );
+    let (s, sn, w, wn) = lent(store, table);
     unsafe { exported::float_index_drop(s, sn, w, wn, id, t) }
 }
 
@@ -270,17 +191,10 @@ pub fn ask(
     rectangle: Rectangle,
 ) -> Reply {
     let (s, sn, w, wn) = (store.as_ptr(), store.len(), table.as_ptr(), table.len());
-    let (ids, length) = (list.as_mut_ptr(), list.len());
-    let Rectangle {
-        low_x,
-        low_y,
-        high_x,
-        high_y,
-    } = rectangle;
+    let (l, ln) = (list.as_mut_ptr(), list.len());
+    let Rectangle { low_x, low_y, high_x, high_y } = rectangle;
     unsafe {
-        exported::float_index_ask(
-            s, sn, w, wn, ids, length, method, asked, low_x, low_y, high_x, high_y,
-        )
+        exported::float_index_ask(s, sn, w, wn, l, ln, method, asked, low_x, low_y, high_x, high_y)
     }
 }
 

@@ -1,3 +1,6 @@
+//! The ledger against document 01's listing, P cases and table of refusals, and
+//! against its own definitions on generated lists.
+
 use super::*;
 use crate::generate::lists;
 use crate::lines::read_call;
@@ -5,7 +8,7 @@ use crate::stream::{answers, serve};
 use crate::LISTING;
 
 fn open(t: i64) -> Ledger {
-    let mut ledger = Ledger::new(Wrong::Nothing);
+    let mut ledger = Ledger::new(None);
     assert_eq!(ledger.call(&Call::Open { t }, 0), Answer::Accepted(0));
     ledger
 }
@@ -16,22 +19,13 @@ fn sighting(id: i64, t: i64, at: [i64; 2], speed: [i64; 2]) -> Sighting {
 
 fn ask(method: i64, time: i64, low: [i64; 2], high: [i64; 2]) -> Ask {
     let rectangle = Rectangle { low, high };
-    Ask {
-        method,
-        time,
-        rectangle,
-    }
+    Ask { method, time, rectangle }
 }
 
 /// Ids, cells, useful, rounds.
 fn listed(ledger: &mut Ledger, ask: Ask) -> (Vec<i64>, usize, usize, usize) {
     match ledger.call(&Call::Ask(ask), MOST_HELD) {
-        Answer::Listed {
-            ids,
-            cells,
-            useful,
-            rounds,
-        } => (ids, cells, useful, rounds),
+        Answer::Listed { ids, cells, useful, rounds } => (ids, cells, useful, rounds),
         other => panic!("{other:?}"),
     }
 }
@@ -39,27 +33,22 @@ fn listed(ledger: &mut Ledger, ask: Ask) -> (Vec<i64>, usize, usize, usize) {
 #[test]
 fn the_listing() {
     let (calls, wanted) = LISTING;
-    let got = answers(calls.as_bytes(), Wrong::Nothing);
+    let got = answers(calls.as_bytes(), None);
     assert_eq!(String::from_utf8(got).unwrap(), wanted);
     let unended = calls.trim_end().as_bytes();
-    assert_eq!(answers(unended, Wrong::Nothing), wanted.as_bytes());
+    assert_eq!(answers(unended, None), wanted.as_bytes());
 }
 
 #[test]
 fn pieces_newlines_and_long_lines() {
     let unread = "?         9         0\n";
     for (input, count) in [("", 0), ("\n", 1), ("x", 1), ("x\n", 1), ("\n\nx", 3)] {
-        let got = answers(input.as_bytes(), Wrong::Nothing);
+        let got = answers(input.as_bytes(), None);
         assert_eq!(got, unread.repeat(count).as_bytes());
     }
-    let long = format!(
-        "{}{}\n{}",
-        LISTING.0,
-        "O         0".repeat(9_000),
-        LISTING.0
-    );
+    let long = format!("{}{}\n{}", LISTING.0, "O         0".repeat(9_000), LISTING.0);
     let wanted = [LISTING.1, unread, LISTING.1].concat();
-    assert_eq!(answers(long.as_bytes(), Wrong::Nothing), wanted.as_bytes());
+    assert_eq!(answers(long.as_bytes(), None), wanted.as_bytes());
     let mut served = Vec::new();
     serve(&mut long.as_bytes(), &mut served).unwrap();
     assert_eq!(served, wanted.as_bytes());
@@ -113,65 +102,69 @@ fn missing_bounds() {
     }
 }
 
+const GOOD: Sighting = Sighting { id: 7, t: 100, at: [0, SEA], speed: [-TOP_SPEED, TOP_SPEED] };
+
+/// Makes the call, which is refused with this number and value and changes
+/// neither the time nor how many are held.
+fn refused(ledger: &mut Ledger, call: Call, list: usize, number: i64, value: i64) {
+    let (now, held) = (ledger.now, ledger.held.len());
+    assert_eq!(ledger.call(&call, list), Answer::Refused(number, value), "{call:?}");
+    assert_eq!((ledger.now, ledger.held.len()), (now, held));
+}
+
 #[test]
-fn every_refusal() {
-    let good = sighting(7, 100, [0, SEA], [-500, 500]);
+fn refusals_by_time_and_numbers() {
     let mut ledger = open(100);
-    let mut refused = |call: Call, list, number, value| {
-        let (now, held) = (ledger.now, ledger.held.len());
-        let answer = ledger.call(&call, list);
-        assert_eq!(answer, Answer::Refused(number, value), "{call:?}");
-        assert_eq!((ledger.now, ledger.held.len()), (now, held));
-    };
-    for t in [-1, 1_000_000_000] {
-        refused(Call::Open { t }, 0, 3, 0);
+    let mut refused = |call, number| refused(&mut ledger, call, 0, number, 0);
+    for t in [-1, LAST_TIME + 1] {
+        refused(Call::Open { t }, 3);
     }
-    for t in [-1, 99, 1_000_000_000] {
-        refused(Call::Clock { t }, 0, 3, 0);
-        refused(Call::Add(Sighting { t, id: 0, ..good }), 0, 3, 0);
-        refused(Call::Report(Sighting { t, id: 0, ..good }), 0, 3, 0);
-        refused(Call::Drop { id: 0, t }, 0, 3, 0);
+    for t in [-1, 99, LAST_TIME + 1] {
+        refused(Call::Clock { t }, 3);
+        refused(Call::Add(Sighting { t, id: 0, ..GOOD }), 3);
+        refused(Call::Report(Sighting { t, id: 0, ..GOOD }), 3);
+        refused(Call::Drop { id: 0, t }, 3);
     }
-    for time in [-1, 7_301, 1_000_000_000] {
-        refused(Call::Ask(ask(9, time, [0, 0], [0, 0])), 0, 3, 0);
+    for time in [-1, 7_301, LAST_TIME + 1] {
+        refused(Call::Ask(ask(9, time, [0, 0], [0, 0])), 3);
     }
-    for id in [-1, 0, 65_536] {
-        refused(Call::Add(Sighting { id, ..good }), 0, 4, 0);
-        refused(Call::Report(Sighting { id, ..good }), 0, 4, 0);
-        refused(Call::Drop { id, t: 5_000 }, 0, 4, 0);
+    for id in [-1, 0, LAST_ID + 1] {
+        refused(Call::Add(Sighting { id, ..GOOD }), 4);
+        refused(Call::Report(Sighting { id, ..GOOD }), 4);
+        refused(Call::Drop { id, t: 5_000 }, 4);
     }
     for at in [[-1, 0], [0, -1], [SEA + 1, 0], [0, SEA + 1]] {
-        refused(Call::Add(Sighting { at, ..good }), 0, 4, 0);
-        refused(Call::Ask(ask(0, 100, at, [SEA; 2])), 0, 4, 0);
-        refused(Call::Ask(ask(0, 100, [0; 2], at)), 0, 4, 0);
+        refused(Call::Add(Sighting { at, ..GOOD }), 4);
+        refused(Call::Ask(ask(0, 100, at, [SEA; 2])), 4);
+        refused(Call::Ask(ask(0, 100, [0; 2], at)), 4);
     }
     for speed in [[-501, 0], [0, -501], [501, 0], [0, 501]] {
-        refused(Call::Report(Sighting { speed, ..good }), 0, 4, 0);
+        refused(Call::Report(Sighting { speed, ..GOOD }), 4);
     }
-    for method in [-1, 4] {
-        refused(Call::Ask(ask(method, 100, [0; 2], [0; 2])), 0, 4, 0);
+    for (method, low) in [(-1, [0; 2]), (4, [0; 2]), (0, [1, 0]), (0, [0, 1])] {
+        refused(Call::Ask(ask(method, 100, low, [0; 2])), 4);
     }
-    refused(Call::Ask(ask(0, 100, [1, 0], [0, 0])), 0, 4, 0);
-    refused(Call::Ask(ask(0, 100, [0, 1], [0, 0])), 0, 4, 0);
-    refused(Call::Report(good), 0, 6, 0);
-    refused(Call::Drop { id: 7, t: 5_000 }, 0, 6, 0);
+}
 
-    for id in 1..=1_024 {
-        let call = Call::Add(Sighting { id, ..good });
+#[test]
+fn refusals_by_what_is_held() {
+    let mut ledger = open(100);
+    refused(&mut ledger, Call::Report(GOOD), 0, 6, 0);
+    refused(&mut ledger, Call::Drop { id: 7, t: 5_000 }, 0, 6, 0);
+    let most = MOST_HELD as i64;
+    for id in 1..=most {
+        let call = Call::Add(Sighting { id, ..GOOD });
         assert_eq!(ledger.call(&call, 0), Answer::Accepted(id));
     }
-    let mut refused = |call: Call, list, number, value| {
-        assert_eq!(ledger.call(&call, list), Answer::Refused(number, value));
-        assert_eq!((ledger.now, ledger.held.len()), (100, 1_024));
-    };
-    let late = Sighting { t: 9_000, ..good };
-    refused(Call::Add(late), 0, 5, 0);
-    refused(Call::Add(Sighting { id: 1_025, ..late }), 0, 7, 0);
-    for list in [0, 1, 1_023] {
-        refused(Call::Ask(ask(2, 100, [0; 2], [SEA; 2])), list, 8, 1_024);
+    let late = Sighting { t: 9_000, ..GOOD };
+    refused(&mut ledger, Call::Add(late), 0, 5, 0);
+    refused(&mut ledger, Call::Add(Sighting { id: most + 1, ..late }), 0, 7, 0);
+    let all = Call::Ask(ask(2, 100, [0; 2], [SEA; 2]));
+    for list in [0, 1, MOST_HELD - 1] {
+        refused(&mut ledger, all, list, 8, most);
     }
-    let all = ledger.call(&Call::Ask(ask(2, 100, [0; 2], [SEA; 2])), 1_024);
-    assert!(matches!(all, Answer::Listed { ids, .. } if ids == Vec::from_iter(1..=1_024)));
+    let listed = ledger.call(&all, MOST_HELD);
+    assert!(matches!(listed, Answer::Listed { ids, .. } if ids == Vec::from_iter(1..=most)));
 }
 
 /// The rows are the bounds of the listed placements, and whatever the method,
@@ -180,7 +173,7 @@ fn every_refusal() {
 fn rows_and_choices_in_generated_lists() {
     let mut most_rounds = 0;
     for list in lists(1) {
-        let mut ledger = Ledger::new(Wrong::Nothing);
+        let mut ledger = Ledger::new(None);
         for (number, line) in list.input.split(|byte| *byte == b'\n').enumerate() {
             let Some(call) = read_call(line) else {
                 continue;
@@ -199,7 +192,7 @@ fn rows_and_choices_in_generated_lists() {
 
 fn check_rows(ledger: &Ledger) {
     let c = ledger.now / PHASE;
-    let mut wanted = [0; 3].map(|_| vec![Row::EMPTY; CELLS]);
+    let mut wanted = [0; SLOTS].map(|_| vec![Row::EMPTY; CELLS]);
     for (phase, cell, speed) in &ledger.placements {
         assert!(live(c).contains(phase));
         let row = &mut wanted[slot(*phase)][*cell];
@@ -214,7 +207,7 @@ fn check_choices(ledger: &Ledger, ask: &Ask, ids: &[i64]) -> usize {
     let mut most_rounds = 0;
     for phase in live(ledger.now / PHASE) {
         let choice = ledger.choice(ask, phase);
-        assert!((-3_600..=17_999).contains(&choice.d));
+        assert!((-ASK_BEFORE..PHASE * SLOTS as i64 + ASK_AFTER).contains(&choice.d));
         let chosen = [0, 1, 2, 3].map(|method| choice.choose(method));
         let mut inside = vec![0; CELLS];
         for (method, chosen) in chosen.iter().enumerate() {

@@ -1,14 +1,29 @@
-//! Numbers from fixed seeds (splitmix64).
+//! Numbers from a seed (splitmix64), so that lists of calls, buffers and fleets
+//! are the same in every run.
+
+/// The numbers from 0 to below a count in another order, far from rising; the
+/// count has no divisor but 1 in common with 7,919.
+pub fn scattered(number: usize, count: usize) -> usize {
+    7_919 * number % count
+}
 
 pub struct Dice(u64);
+
+/// What the state grows by at each number.
+const STEP: u64 = 0x9e37_79b9_7f4a_7c15;
 
 impl Dice {
     pub fn new(seed: u64) -> Dice {
         Dice(seed)
     }
 
-    pub fn next(&mut self) -> u64 {
-        self.0 = self.0.wrapping_add(0x9e37_79b9_7f4a_7c15);
+    /// The numbers of seed 0 without so many of the first.
+    pub fn after(count: u64) -> Dice {
+        Dice(STEP.wrapping_mul(count))
+    }
+
+    pub fn bits(&mut self) -> u64 {
+        self.0 = self.0.wrapping_add(STEP);
         let z = (self.0 ^ (self.0 >> 30)).wrapping_mul(0xbf58_476d_1ce4_e5b9);
         let z = (z ^ (z >> 27)).wrapping_mul(0x94d0_49bb_1331_11eb);
         z ^ (z >> 31)
@@ -16,7 +31,7 @@ impl Dice {
 
     /// A number from low to high, both included.
     pub fn range(&mut self, low: i64, high: i64) -> i64 {
-        low + (self.next() % (high - low + 1) as u64) as i64
+        low + (self.bits() % (high - low + 1) as u64) as i64
     }
 
     /// A number from 0 to below the given one.

@@ -1,8 +1,9 @@
 //! Compares the replay program with the plain ledger, byte by byte.
 //!
-//!     cargo run --release --offline -- [--more] [REPLAY]
-//!     cargo run --release --offline -- --mutants
-//!     cargo run --release --offline -- --write FOLDER
+//!     cargo run --release --offline -p compare -- [--more] [REPLAY]
+//!     cargo run --release --offline -p compare -- --mutants
+//!     cargo run --release --offline -p compare -- --write FOLDER
+//!     cargo run --release --offline -p compare -- --ledger <CALLS
 //!
 //! REPLAY is the program to compare; without it, `target/bin/replay` in the
 //! folder above this package. Every generated list goes through the program
@@ -14,6 +15,7 @@
 //! `--mutants` needs no program: it shows that the lists tell the ledger from
 //! one with a wrong rule, for each of four wrong rules. `--write` writes the
 //! lists and the two long files into a folder, to look at or to run by hand.
+//! `--ledger` answers call lines from standard input, as the ledger does.
 
 use plain_ledger::generate::{lists, many_asks, many_reports, List};
 use plain_ledger::methods::Wrong;
@@ -68,7 +70,7 @@ fn fail(message: &str) -> ! {
 }
 
 fn usage() -> ! {
-    fail("usage: compare [--more] [REPLAY] | --mutants | --write FOLDER")
+    fail("usage: compare [--more] [REPLAY] | --mutants | --write FOLDER | --ledger")
 }
 
 fn or_fail<T>(result: std::io::Result<T>, doing: &str) -> T {
@@ -119,10 +121,7 @@ impl Run {
         let input = or_fail(File::open(self.folder.join(input)), "opening a list");
         let output = or_fail(File::create(self.folder.join(output)), "opening answers");
         let start = Instant::now();
-        let status = or_fail(
-            command.stdin(input).stdout(output).status(),
-            "running the program",
-        );
+        let status = or_fail(command.stdin(input).stdout(output).status(), "running the program");
         let time = start.elapsed();
         if !status.success() {
             fail(&format!("the program ended with {status}"));
@@ -168,14 +167,8 @@ impl Run {
         let lines: usize = styles.values().map(|(_, lines)| lines).sum();
         let accepted = numbers[0];
         let refused = &numbers[3..8];
-        println!(
-            "accepted {accepted}, refused 3 to 7 {refused:?}, no call {}",
-            numbers[9]
-        );
-        println!(
-            "{lines} lines the same in {:.1} s",
-            start.elapsed().as_secs_f64()
-        );
+        println!("accepted {accepted}, refused 3 to 7 {refused:?}, no call {}", numbers[9]);
+        println!("{lines} lines the same in {:.1} s", start.elapsed().as_secs_f64());
     }
 
     /// Lists in pieces through a pipe.
@@ -218,15 +211,11 @@ impl Run {
             while matches!(from.read(&mut byte), Ok(1)) && sender.send(byte[0]).is_ok() {}
         });
         let mut at_once = true;
-        for (call, answer) in calls
-            .split_inclusive('\n')
-            .zip(wanted.split_inclusive('\n'))
-        {
+        for (call, answer) in calls.split_inclusive('\n').zip(wanted.split_inclusive('\n')) {
             or_fail(to.write_all(call.as_bytes()), "typing");
             let limit = Duration::from_secs(2);
-            at_once &= answer
-                .bytes()
-                .all(|byte| at_once && answered.recv_timeout(limit) == Ok(byte));
+            at_once &=
+                answer.bytes().all(|byte| at_once && answered.recv_timeout(limit) == Ok(byte));
         }
         drop((to, answered));
         or_fail(child.wait().map(drop), "waiting for the program");
@@ -277,29 +266,22 @@ fn children_ticks() -> u64 {
 /// The first list and line that tell the ledger from one with this wrong rule.
 fn first_found(wrong: Wrong) -> Option<(List, usize)> {
     lists(SEEDS).find_map(|list| {
-        let number = first_difference(&list.answers, &answers(&list.input, wrong))?;
+        let number = first_difference(&list.answers, &answers(&list.input, Some(wrong)))?;
         Some((list, number))
     })
 }
 
 fn mutants() {
-    for wrong in WRONGS {
+    for &wrong in Wrong::ALL {
         let Some((list, number)) = first_found(wrong) else {
             fail(&format!("{wrong:?} is not found"));
         };
         println!("{wrong:?} is found in {}, line {}", list.style, number + 1);
         println!("  call  {}", line(&list.input, number));
         println!("  right {}", line(&list.answers, number));
-        println!("  wrong {}", line(&answers(&list.input, wrong), number));
+        println!("  wrong {}", line(&answers(&list.input, Some(wrong)), number));
     }
 }
-
-const WRONGS: [Wrong; 4] = [
-    Wrong::SignedBack,
-    Wrong::EndedEdges,
-    Wrong::NarrowedDrop,
-    Wrong::SkippedPhase,
-];
 
 #[cfg(test)]
 mod tests {
@@ -307,7 +289,7 @@ mod tests {
 
     #[test]
     fn each_wrong_rule_is_found() {
-        for wrong in WRONGS {
+        for &wrong in Wrong::ALL {
             assert!(first_found(wrong).is_some(), "{wrong:?}");
         }
     }

@@ -1,0 +1,70 @@
+//! Between the independent ledger and the buffers: the words that a ledger
+//! would leave, and the ledger of sound words. Where which word stands is the
+//! buffers' own; phases, cells and curve numbers are the ledger's.
+
+use buffers::{records, rows, Record, Words, HELD, KEYS, NOW};
+use float_index::Report;
+use plain_ledger::grid::{cell, curve_number};
+use plain_ledger::ledger::{live, slot, Held, Ledger, Sighting};
+use plain_ledger::limits::{CELLS, PHASE};
+use plain_ledger::methods::{Row, Wrong};
+
+/// A report with its key, in the ledger's numbers.
+pub type Keyed = (i64, Sighting);
+
+/// A number of a call or a word, which generators keep in 32 bits.
+pub fn small(number: i64) -> i32 {
+    i32::try_from(number).expect("numbers fit 32 bits")
+}
+
+/// What the index is told of a sighting.
+pub fn report(s: &Sighting) -> Report {
+    let [x, y] = s.at.map(small);
+    let [vx, vy] = s.speed.map(small);
+    Report { id: small(s.id), t: small(s.t), x, y, vx, vy }
+}
+
+pub fn record((key, sighting): &Keyed) -> Record {
+    buffers::record(small(*key), report(sighting))
+}
+
+pub fn keyed(record: &Record) -> Keyed {
+    let Report { id, t, x, y, vx, vy } = buffers::report(record);
+    let (at, speed) = ([x, y].map(i64::from), [vx, vy].map(i64::from));
+    let sighting = Sighting { id: id.into(), t: t.into(), at, speed };
+    (record[buffers::KEY].into(), sighting)
+}
+
+/// The key of a report in a phase.
+pub fn key_in(phase: i64, report: &Sighting) -> i64 {
+    buffers::key(slot(phase), curve_number(cell(report.position(PHASE * phase)))) as i64
+}
+
+/// The words of a ledger.
+pub fn write(ledger: &Ledger) -> Words {
+    let floats = ledger.held().map(|h| record(&(key_in(h.phase, &h.report), h.report)));
+    let mut rows = vec![buffers::EMPTY; KEYS];
+    for (slot, of_slot) in ledger.rows().iter().enumerate() {
+        for (cell, row) in of_slot.iter().enumerate() {
+            let spans = [0, 1].map(|axis| [row.least[axis], row.greatest[axis]]);
+            rows[buffers::key(slot, curve_number(cell))] = spans;
+        }
+    }
+    Words::new(small(ledger.now()), floats.collect(), &rows)
+}
+
+/// The ledger of a sound store and table.
+pub fn read(store: &[i32], table: &[i16], wrong: Option<Wrong>) -> Ledger {
+    let now = i64::from(store[NOW]);
+    let held = records(store)[..store[HELD] as usize].iter().map(|record| {
+        let (key, report) = keyed(record);
+        let of_slot = |p: &i64| slot(*p) == key as usize / CELLS;
+        Held::placed(report, live(now / PHASE).find(of_slot).unwrap_or(0))
+    });
+    let row = |slot, cell| {
+        let [x, y] = rows(table)[buffers::key(slot, curve_number(cell))];
+        Row { least: [x[0], y[0]], greatest: [x[1], y[1]] }
+    };
+    let rows = std::array::from_fn(|slot| (0..CELLS).map(|cell| row(slot, cell)).collect());
+    Ledger::kept(now, held.collect(), rows, wrong)
+}
