@@ -15,7 +15,7 @@ const SIDES: [i32; 3] = [WIDTH, 1_000_000, WHOLE_SEA];
 const HOUR: i32 = 3_600;
 
 /// A call that changes the buffers, by its numbers.
-type Change<N> = fn(&mut [i32], &mut [i16], N) -> Reply;
+type Change<N> = fn(&mut Words, N) -> Reply;
 
 impl Bench {
     /// Every call, in the order of the table.
@@ -39,25 +39,25 @@ impl Bench {
 
     /// The same change by the index and by the twin.
     fn change<N: Copy>(&self, name: &str, base: &Words, n: N, acts: [Change<N>; 2]) -> Times {
-        let [index, twin] = acts.map(|act| {
-            move |words: &mut Words, _: &mut [u16]| act(&mut words.store, &mut words.table, n)
-        });
+        let [index, twin] = acts.map(|act| move |w: &mut Words, _: &mut [u16]| act(w, n));
         self.times(name.into(), base, &index, &twin, None)
     }
 
     fn open(&self) -> Times {
-        self.change("open", &fleet(MOST_HELD, 3), 5, [float_index::open, twin::open])
+        let index: Change<i32> = |w, t| float_index::open(&mut w.store, &mut w.table, t);
+        self.change("open", &fleet(MOST_HELD, 3), 5, [index, twin::open])
     }
 
     fn soundness(&self, base: &Words) -> Times {
         let reply = |sound: bool| Reply { number: usize::from(!sound), ..Reply::default() };
         let index = |w: &mut Words, _: &mut [u16]| reply(float_index::is_sound(&w.store, &w.table));
-        let twin = |w: &mut Words, _: &mut [u16]| reply(twin::is_sound(&w.store, &w.table));
+        let twin = |w: &mut Words, _: &mut [u16]| reply(twin::is_sound(w));
         self.times(SOUNDNESS.into(), base, &index, &twin, None)
     }
 
     fn clock(&self, name: &str, base: &Words, t: i32) -> Times {
-        self.change(name, base, t, [float_index::clock, twin::clock])
+        let index: Change<i32> = |w, t| float_index::clock(&mut w.store, &mut w.table, t);
+        self.change(name, base, t, [index, twin::clock])
     }
 
     fn same_phase(&self, base: &Words) -> Times {
@@ -79,17 +79,20 @@ impl Bench {
     fn add(&self, floats: usize) -> Times {
         let base = fleet(floats.min(MOST_HELD - 1), 3);
         let new = float(5_000, time_in(2));
-        self.change("add", &base, new, [float_index::add, twin::add])
+        let index: Change<Report> = |w, r| float_index::add(&mut w.store, &mut w.table, r);
+        self.change("add", &base, new, [index, twin::add])
     }
 
     fn report(&self, base: &Words) -> Times {
         let new = Report { id: middle_id(base), ..float(5_000, time_in(2)) };
-        self.change("report", base, new, [float_index::report, twin::report])
+        let index: Change<Report> = |w, r| float_index::report(&mut w.store, &mut w.table, r);
+        self.change("report", base, new, [index, twin::report])
     }
 
     fn drop(&self, base: &Words) -> Times {
-        let index: Change<(i32, i32)> = |s, w, (id, t)| float_index::drop(s, w, id, t);
-        let twin: Change<(i32, i32)> = |s, w, (id, t)| twin::drop(s, w, id, t);
+        let index: Change<(i32, i32)> =
+            |w, (id, t)| float_index::drop(&mut w.store, &mut w.table, id, t);
+        let twin: Change<(i32, i32)> = |w, (id, t)| twin::drop(w, id, t);
         self.change("drop", base, (middle_id(base), time_in(2)), [index, twin])
     }
 
@@ -102,10 +105,8 @@ impl Bench {
         let index = move |w: &mut Words, list: &mut [u16]| {
             float_index::ask(&w.store, &w.table, list, method, t, q)
         };
-        let twin = move |w: &mut Words, list: &mut [u16]| {
-            twin::ask(&w.store, &w.table, list, method, t, q)
-        };
-        let scan = move |w: &Words, list: &mut [u16]| twin::scan(&w.store, list, t, q);
+        let twin = move |w: &mut Words, list: &mut [u16]| twin::ask(w, list, method, t, q);
+        let scan = move |w: &Words, list: &mut [u16]| twin::scan(w, list, t, q);
         let name = match side {
             WHOLE_SEA => format!("ask, {name}, whole sea"),
             _ => format!("ask, {name}, side {side}"),

@@ -2,7 +2,7 @@
 //! would leave, and the ledger of sound words. Where which word stands is the
 //! buffers' own; phases, cells and curve numbers are the ledger's.
 
-use buffers::{records, rows, Record, Words, HELD, KEYS, NOW};
+use buffers::{rows, Record, Words, KEYS, NOW};
 use float_index::Report;
 use plain_ledger::grid::{cell, curve_number};
 use plain_ledger::ledger::{live, slot, Held, Ledger, Sighting};
@@ -53,16 +53,16 @@ pub fn write(ledger: &Ledger) -> Words {
     Words::new(small(ledger.now()), floats.collect(), &rows)
 }
 
-/// The ledger of a sound store and table.
-pub fn read(store: &[i32], table: &[i16], wrong: Option<Wrong>) -> Ledger {
-    let now = i64::from(store[NOW]);
-    let held = records(store)[..store[HELD] as usize].iter().map(|record| {
+/// The ledger of sound words.
+pub fn read(words: &Words, wrong: Option<Wrong>) -> Ledger {
+    let now = i64::from(words.store[NOW]);
+    let held = words.held().iter().map(|record| {
         let (key, report) = keyed(record);
         let of_slot = |p: &i64| slot(*p) == key as usize / CELLS;
         Held::placed(report, live(now / PHASE).find(of_slot).unwrap_or(0))
     });
     let row = |slot, cell| {
-        let [x, y] = rows(table)[buffers::key(slot, curve_number(cell))];
+        let [x, y] = rows(&words.table)[buffers::key(slot, curve_number(cell))];
         Row { least: [x[0], y[0]], greatest: [x[1], y[1]] }
     };
     let rows = std::array::from_fn(|slot| (0..CELLS).map(|cell| row(slot, cell)).collect());

@@ -33,12 +33,19 @@ pub const PARTS: [Part; 9] = [
     LISTS,
     part(3_000, 8, Run::store_words, "every word of a sound store changed"),
     part(4_000, 3, Run::table_numbers, "every number of a sound table changed"),
-    part(0, 4, Run::store_lengths, "every length of the store, up to 120 past its own"),
-    part(1_000, 4, Run::table_lengths, "every length of the table, up to 120 past its own"),
+    part(0, LENGTH_RUNS, Run::store_lengths, "every length of the store, up to 120 past its own"),
+    part(
+        1_000,
+        LENGTH_RUNS,
+        Run::table_lengths,
+        "every length of the table, up to 120 past its own",
+    ),
     part(2_000, 2, Run::both_lengths, "both lengths wrong, or nearly"),
     part(6_000, 4, Run::random_words, "random words"),
 ];
 
+/// The runs that share the lengths of a buffer.
+const LENGTH_RUNS: u64 = 4;
 /// How far past their own the lengths go that are all tried.
 const PAST: usize = 120;
 /// Any length is up to this.
@@ -67,24 +74,35 @@ impl Run {
         (draft.words(), draft.setting())
     }
 
-    fn try_any(&mut self, store: &[i32], table: &[i16], setting: &Setting) -> Tried {
+    fn try_any(&mut self, words: &Words, setting: &Setting) -> Tried {
         let call = setting.call(&mut self.dice);
         let list = setting.list(&mut self.dice);
-        self.trial.call(store, table, &call, list)
+        self.trial.call(words, &call, list)
+    }
+
+    /// A run's lengths from the longest down; all runs together take each once.
+    fn lengths(&self, longest: usize) -> impl Iterator<Item = usize> {
+        (self.seed as usize..longest + 1).step_by(LENGTH_RUNS as usize).rev()
     }
 
     fn store_lengths(&mut self) -> Tried {
         let (mut words, setting) = self.base();
         words.store.resize(STORE_WORDS + PAST, 0);
-        let mut lengths = (self.seed as usize..=words.store.len()).step_by(4);
-        lengths.try_for_each(|n| self.try_any(&words.store[..n], &words.table, &setting))
+        for length in self.lengths(words.store.len()) {
+            words.store.truncate(length);
+            self.try_any(&words, &setting)?;
+        }
+        Ok(())
     }
 
     fn table_lengths(&mut self) -> Tried {
         let (mut words, setting) = self.base();
         words.table.resize(TABLE_NUMBERS + PAST, TOP_SPEED as i16 + 1);
-        let mut lengths = (self.seed as usize..=words.table.len()).step_by(4);
-        lengths.try_for_each(|n| self.try_any(&words.store, &words.table[..n], &setting))
+        for length in self.lengths(words.table.len()) {
+            words.table.truncate(length);
+            self.try_any(&words, &setting)?;
+        }
+        Ok(())
     }
 
     fn both_lengths(&mut self) -> Tried {
@@ -96,7 +114,8 @@ impl Run {
             let any = [0; 2].map(|_| self.dice.below(LONG + 1));
             let store = self.dice.pick(&[0, 1, RECORD_WORDS, s - 1, s, s + 1, t, any[0]]);
             let table = self.dice.pick(&[0, 1, 4, t - 1, t, t + 1, s, any[1]]);
-            self.try_any(&words.store[..store], &words.table[..table], &setting)?;
+            let (store, table) = (words.store[..store].to_vec(), words.table[..table].to_vec());
+            self.try_any(&Words { store, table }, &setting)?;
         }
         Ok(())
     }
@@ -115,7 +134,7 @@ impl Run {
         for place in 0..STORE_WORDS {
             let old = words.store[place];
             words.store[place] = self.other(old.into(), 32) as i32;
-            self.try_any(&words.store, &words.table, &setting)?;
+            self.try_any(&words, &setting)?;
             words.store[place] = old;
         }
         Ok(())
@@ -126,7 +145,7 @@ impl Run {
         for place in 0..TABLE_NUMBERS {
             let old = words.table[place];
             words.table[place] = self.other(old.into(), 16) as i16;
-            self.try_any(&words.store, &words.table, &setting)?;
+            self.try_any(&words, &setting)?;
             words.table[place] = old;
         }
         Ok(())
@@ -139,7 +158,7 @@ impl Run {
             let setting = draft.setting();
             for _ in 0..12 {
                 let words = draft.flawed(&mut self.dice);
-                self.try_any(&words.store, &words.table, &setting)?;
+                self.try_any(&words, &setting)?;
             }
         }
         Ok(())
@@ -151,7 +170,7 @@ impl Run {
             let draft = Draft::any(&mut self.dice, floats);
             let (words, setting) = (draft.words(), draft.setting());
             for _ in 0..12 {
-                self.try_any(&words.store, &words.table, &setting)?;
+                self.try_any(&words, &setting)?;
             }
         }
         Ok(())
@@ -171,7 +190,7 @@ impl Run {
                 store[NOW] = self.dice.range(0, LAST_TIME) as i32;
             }
             let now = i64::from(store[NOW]).clamp(0, LAST_TIME);
-            self.try_any(&store, &table, &Setting { now, floats: Vec::new() })?;
+            self.try_any(&Words { store, table }, &Setting { now, floats: Vec::new() })?;
         }
         Ok(())
     }

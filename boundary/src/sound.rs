@@ -3,7 +3,7 @@
 //! out, to see whether the buffers tried would show it.
 
 use crate::ledgers::{key_in, keyed, Keyed};
-use buffers::{records, rows, Row, EMPTY, HELD, NOW, RECORD_WORDS};
+use buffers::{records, rows, Row, Words, EMPTY, HELD, NOW, RECORD_WORDS};
 use plain_ledger::ledger::{live, slot, Sighting};
 use plain_ledger::limits::{CELLS, LAST_ID, LAST_TIME, MOST_HELD, PHASE, SEA, TOP_SPEED};
 
@@ -44,7 +44,8 @@ impl Sound {
     }
 
     /// Of buffers that have their lengths.
-    pub fn holds(&self, store: &[i32], table: &[i16]) -> bool {
+    pub fn holds(&self, words: &Words) -> bool {
+        let (store, rows) = (&words.store, rows(&words.table));
         if !self.head(store) {
             return false;
         }
@@ -61,8 +62,8 @@ impl Sound {
             && used.iter().all(|r| self.record(now, r))
             && self.check(Clause::IdsDistinct, are_distinct(&used))
             && used.windows(2).all(|pair| self.order(&pair[0], &pair[1]))
-            && rows(table).iter().all(|row| self.row(row))
-            && used.iter().all(|r| self.in_row(table, r))
+            && rows.iter().all(|row| self.row(row))
+            && used.iter().all(|r| self.in_row(rows, r))
     }
 
     fn head(&self, store: &[i32]) -> bool {
@@ -122,8 +123,8 @@ impl Sound {
             && self.check(Clause::RowsOrdered, span[0] <= span[1])
     }
 
-    fn in_row(&self, table: &[i16], (key, report): &Keyed) -> bool {
-        let row = usize::try_from(*key).ok().and_then(|key| rows(table).get(key));
+    fn in_row(&self, rows: &[Row], (key, report): &Keyed) -> bool {
+        let row = usize::try_from(*key).ok().and_then(|key| rows.get(key));
         let holds = |row: &Row| {
             let spans = row.map(|[least, greatest]| least.into()..=greatest.into());
             spans.iter().zip(report.speed).all(|(span, v)| span.contains(&v))

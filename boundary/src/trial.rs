@@ -4,7 +4,7 @@
 use crate::ledgers::{read, report, small, write};
 use crate::sound::Sound;
 use buffers::Words;
-use float_index::{refusal, Rectangle, Reply, STORE_WORDS, TABLE_NUMBERS};
+use float_index::{refusal, Rectangle, Reply};
 use plain_ledger::ledger::{Answer, Call, Ledger};
 use plain_ledger::methods::Wrong;
 
@@ -93,16 +93,10 @@ impl Trial {
     }
 
     /// Buffers of any length and content, with a list of so many ids.
-    pub fn call(
-        &mut self,
-        store: &[i32],
-        table: &[i16],
-        call: &Call,
-        list: usize,
-    ) -> Result<(), Difference> {
-        let long = store.len() == STORE_WORDS && table.len() == TABLE_NUMBERS;
-        let sound = long && self.rules.sound.holds(store, table);
-        if float_index::is_sound(store, table) != sound {
+    pub fn call(&mut self, words: &Words, call: &Call, list: usize) -> Result<(), Difference> {
+        let long = words.have_lengths();
+        let sound = long && self.rules.sound.holds(words);
+        if float_index::is_sound(&words.store, &words.table) != sound {
             return Err(Difference(format!("soundness, expected {sound}")));
         }
         let open = matches!(call, Call::Open { .. });
@@ -114,11 +108,11 @@ impl Trial {
             let wrong = self.rules.wrong;
             let mut ledger = match open {
                 true => Ledger::new(wrong),
-                false => read(store, table, wrong),
+                false => read(words, wrong),
             };
             expected(&mut ledger, call, list)
         };
-        self.compare(store, table, call, list, &expected)
+        self.compare(words, call, list, &expected)
     }
 
     /// The next call of a list, whose ledger runs along. Gives the words after.
@@ -129,38 +123,34 @@ impl Trial {
         call: &Call,
         list: usize,
     ) -> Result<Words, Difference> {
-        if !self.rules.sound.holds(&before.store, &before.table) {
+        if !self.rules.sound.holds(&before) {
             return Err(Difference("a list of calls led to unsound words".into()));
         }
         let expected = expected(ledger, call, list);
-        self.compare(&before.store, &before.table, call, list, &expected)?;
+        self.compare(&before, call, list, &expected)?;
         Ok(expected.words.unwrap_or(before))
     }
 
     fn compare(
         &mut self,
-        store: &[i32],
-        table: &[i16],
+        before: &Words,
         call: &Call,
         list: usize,
         expected: &Expected,
     ) -> Result<(), Difference> {
         let mut ids: Vec<u16> = (0..list).map(|i| (31 * i + 5) as u16).collect();
-        self.store.fill(store);
-        self.table.fill(table);
+        self.store.fill(&before.store);
+        self.table.fill(&before.table);
         self.list.fill(&ids);
         let reply = run(call, self.store.lend(), self.table.lend(), self.list.lend());
         ids[..expected.ids.len()].copy_from_slice(&expected.ids);
-        let (store, table) = match &expected.words {
-            Some(words) => (&words.store[..], &words.table[..]),
-            None => (store, table),
-        };
+        let after = expected.words.as_ref().unwrap_or(before);
         self.given[reply.number.min(refusal::LIST_TOO_SHORT)] += 1;
         let what = if reply != expected.reply {
             format!("reply {reply:?}, expected {:?}", expected.reply)
-        } else if !self.store.holds(store) {
+        } else if !self.store.holds(&after.store) {
             "the store after the call".into()
-        } else if !self.table.holds(table) {
+        } else if !self.table.holds(&after.table) {
             "the table after the call".into()
         } else if !self.list.holds(&ids) {
             "the list after the call".into()

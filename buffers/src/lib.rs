@@ -65,6 +65,16 @@ impl Words {
         rows_mut(&mut words.table).copy_from_slice(rows);
         words
     }
+
+    pub fn have_lengths(&self) -> bool {
+        self.store.len() == STORE_WORDS && self.table.len() == TABLE_NUMBERS
+    }
+
+    /// The records in use, of words whose count is in range.
+    #[inline]
+    pub fn held(&self) -> &[Record] {
+        &records(&self.store)[..self.store[HELD] as usize]
+    }
 }
 
 #[inline]

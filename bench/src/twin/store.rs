@@ -3,20 +3,11 @@
 use super::grid::{column, curve_number, Rect};
 use super::rows::{first_live, holds, is_valid, join, phase_of, reference_time, row_of, slot_of};
 use buffers::{key, order, records, records_mut, report, rows, rows_mut};
-use buffers::{Record, CELLS, HELD, ID, KEY, KEYS, NOW, RECORD_WORDS, SLOTS};
+use buffers::{Record, Words, CELLS, HELD, ID, KEY, KEYS, NOW, RECORD_WORDS, SLOTS};
 use float_index::{Report, LAST_ID, LAST_POSITION, LAST_TIME, MOST_HELD, TOP_SPEED};
-use float_index::{STORE_WORDS, TABLE_NUMBERS};
 
 /// Ids are below this.
 pub const IDS: usize = LAST_ID as usize + 1;
-
-pub fn have_lengths(store: &[i32], table: &[i16]) -> bool {
-    store.len() == STORE_WORDS && table.len() == TABLE_NUMBERS
-}
-
-pub fn held(store: &[i32]) -> &[Record] {
-    &records(store)[..store[HELD] as usize]
-}
 
 /// Where a float is at time s.
 fn position(r: &Report, s: i64) -> [i64; 2] {
@@ -76,17 +67,18 @@ fn is_sound_store(store: &[i32]) -> bool {
 }
 
 #[inline(never)]
-pub fn is_sound(store: &[i32], table: &[i16]) -> bool {
-    have_lengths(store, table)
-        && is_sound_store(store)
-        && rows(table).iter().all(is_valid)
-        && held(store).iter().all(|r| holds(&rows(table)[r[KEY] as usize], &report(r)))
+pub fn is_sound(words: &Words) -> bool {
+    let rows = rows(&words.table);
+    words.have_lengths()
+        && is_sound_store(&words.store)
+        && rows.iter().all(is_valid)
+        && words.held().iter().all(|r| holds(&rows[r[KEY] as usize], &report(r)))
 }
 
 // ---- changes
 
-pub fn has_id(store: &[i32], id: i32) -> bool {
-    held(store).iter().any(|r| r[ID] == id)
+pub fn has_id(words: &Words, id: i32) -> bool {
+    words.held().iter().any(|r| r[ID] == id)
 }
 
 pub fn insert(store: &mut [i32], new: Record) {
@@ -117,9 +109,9 @@ pub fn widen(table: &mut [i16], r: &Record) {
 
 /// The current phase goes from c to later: floats of dead phases are placed in
 /// it. They have its slot to themselves, so once in order they go in as one run.
-pub fn step_records(store: &mut [i32], table: &mut [i16], c: i64, later: i64) {
-    let n = store[HELD] as usize;
-    let records = records_mut(store);
+pub fn step_records(words: &mut Words, c: i64, later: i64) {
+    let n = words.store[HELD] as usize;
+    let records = records_mut(&mut words.store);
     let mut dead = [[0; RECORD_WORDS]; MOST_HELD];
     let (mut kept, mut gone) = (0, 0);
     for i in 0..n {
@@ -140,7 +132,7 @@ pub fn step_records(store: &mut [i32], table: &mut [i16], c: i64, later: i64) {
         records.copy_within(place..kept, place + gone);
         records[place..place + gone].copy_from_slice(dead);
     }
-    dead.iter().for_each(|r| widen(table, r));
+    dead.iter().for_each(|r| widen(&mut words.table, r));
 }
 
 // ---- reading
@@ -156,14 +148,14 @@ pub struct Reading {
 /// Reads the marked cells of a slot, each run of marked numbers as one run of
 /// records, and marks the ids listed.
 pub fn read_cells(
-    store: &[i32],
+    words: &Words,
     slot: usize,
     marks: &[bool; CELLS],
     q: &Rect,
     asked: i64,
     found: &mut [u8; IDS],
 ) -> Reading {
-    let records = held(store);
+    let records = words.held();
     let mut reading = Reading::default();
     let mut last = -1;
     let mut number = 0;
@@ -210,9 +202,9 @@ pub fn write_rising(found: &[u8; IDS], list: &mut [u16]) {
 
 /// The ids of the floats in the rectangle, in order, with no test of anything
 /// and every record read.
-pub fn scan(store: &[i32], q: &Rect, asked: i64, list: &mut [u16]) -> usize {
+pub fn scan(words: &Words, q: &Rect, asked: i64, list: &mut [u16]) -> usize {
     let mut n = 0;
-    for r in held(store) {
+    for r in words.held() {
         if q.holds(position(&report(r), asked)) {
             list[n] = r[ID] as u16;
             n += 1;
