@@ -1,6 +1,6 @@
-//! Document 01's numbers, once for this crate; the rest of it computes with
-//! these. The other crates have their own, so that neither side's slip is
-//! hidden by the other's.
+//! Document 01's numbers, once for the ledger and what is compared with it. The
+//! index's side has its own (bindings/rust, buffers), so that a slip on one side
+//! is not the other's too.
 
 /// The grid's columns, and its rows.
 pub const SIDE: usize = 32;

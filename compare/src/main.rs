@@ -210,18 +210,17 @@ impl Run {
             let mut byte = [0];
             while matches!(from.read(&mut byte), Ok(1)) && sender.send(byte[0]).is_ok() {}
         });
-        let mut at_once = true;
         for (call, answer) in calls.split_inclusive('\n').zip(wanted.split_inclusive('\n')) {
             or_fail(to.write_all(call.as_bytes()), "typing");
-            let limit = Duration::from_secs(2);
-            at_once &=
-                answer.bytes().all(|byte| at_once && answered.recv_timeout(limit) == Ok(byte));
+            let limit = Duration::from_secs(10);
+            if !answer.bytes().all(|byte| answered.recv_timeout(limit) == Ok(byte)) {
+                fail(&format!("{call:?} is not answered before the next line is typed"));
+            }
         }
         drop((to, answered));
         or_fail(child.wait().map(drop), "waiting for the program");
         drop(reader.join());
-        let word = if at_once { "yes" } else { "NO" };
-        println!("each line answered before the next is typed: {word}");
+        println!("each line answered before the next is typed");
     }
 
     /// The least of five times each, on the same file, in turn; and the
