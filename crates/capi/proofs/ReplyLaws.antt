@@ -3,16 +3,16 @@
 use mathlib.Core.Path.{_≡_, ap, _∙_}
 use mathlib.Core.List.{List}
 use Prim.Native.Nat.{ℕ}
-use lib.IntN.{ℤ}
 use Rattle.ledger.specs.declared.Answer.{Answer}
-use Rattle.engine.specs.Index.{Outcome, AskOutcome}
-use Rattle.engine.specs.Gives.{Gives, GivesList}
+use Rattle.records.specs.Words.{Words}
+use Rattle.asking.specs.Asking.{AskOutcome, GivesList}
+use Rattle.engine.specs.Index.{Outcome}
+use Rattle.engine.specs.Gives.{Gives}
 use Rattle.capi.specs.declared.Reply.{Reply}
 use Rattle.capi.specs.Replies.{replyOf, Replies, RepliesList}
 
-pub replied : (o : Outcome) (a : Answer) (r : Reply) (s t : List ℤ) → Gives o a s t → r ≡ replyOf a → Replies o r s t
-replied o a r s t g e =
-    record { reply-is = e ∙ ap replyOf (g .answer-is); store-is = g .store-is; table-is = g .table-is }
+pub replied : (o : Outcome) (a : Answer) (r : Reply) (w : Words) → Gives o a w → r ≡ replyOf a → Replies o r w
+replied o a r w g e = record { reply-is = e ∙ ap replyOf (g .answer-is); words-are = g .words-are }
 
 pub replied-list : (o : AskOutcome) (a : Answer) (r : Reply) (list : List ℕ) → GivesList o a list → r ≡ replyOf a → RepliesList o r list
 replied-list o a r list g e =

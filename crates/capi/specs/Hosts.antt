@@ -8,11 +8,14 @@ use Prim.Native.Nat.{ℕ}
 use lib.Dec.{eqb}
 use lib.IntN.{ℤ}
 use lib.ListN.{length, take}
+use Rattle.records.specs.Words.{Words}
 use Rattle.ledger.specs.Machine.{opened}
 use Rattle.ledger.specs.Calls as Ledger
-use Rattle.engine.specs.Index.{openOut, clockOut, addOut, reportOut, dropOut, askOut}
-use Rattle.history.specs.Index.{Words}
-use Rattle.capi.specs.Replies.{replyOf, reportOf, rectOf, Replies, RepliesList}
+use Rattle.ledger.specs.declared.Call.{Call}
+use Rattle.ledger.specs.declared.Call.the-variants as Call
+use Rattle.ledger.specs.declared.Change.the-variants as Change
+use Rattle.engine.specs.Index.{openOut, clockOut, changeOut, askOut}
+use Rattle.capi.specs.Replies.{replyOf, reportOf, askOf, Replies, RepliesList}
 use Rattle.capi.specs.declared.Reply.{Reply}
 
 -- an exported call with its numbers, in the order of its parameters; an ask with the list that it is lent
@@ -23,13 +26,24 @@ pub data HostCall : Type 0 where
   drop : ℤ → ℤ → HostCall
   ask : ℤ → ℤ → ℤ → ℤ → ℤ → ℤ → List ℕ → HostCall
 
+-- the call that it is, and the list that it is lent
+unfoldable pub callOf : HostCall → Call
+callOf (clock t) = Call.Clock t
+callOf (add id t x y vx vy) = Call.Change (Change.Add (reportOf id t x y vx vy))
+callOf (report id t x y vx vy) = Call.Change (Change.Report (reportOf id t x y vx vy))
+callOf (drop id t) = Call.Change (Change.Drop id t)
+callOf (ask method asked lowX lowY highX highY list) = Call.Ask (askOf method asked lowX lowY highX highY)
+
+unfoldable pub listOf : HostCall → List ℕ
+listOf (clock t) = []
+listOf (add id t x y vx vy) = []
+listOf (report id t x y vx vy) = []
+listOf (drop id t) = []
+listOf (ask method asked lowX lowY highX highY list) = list
+
 -- what the ledger is fed of it
-unfoldable pub fed : HostCall → Ledger.Call
-fed (clock t) = Ledger.clock t
-fed (add id t x y vx vy) = Ledger.add (reportOf id t x y vx vy)
-fed (report id t x y vx vy) = Ledger.report (reportOf id t x y vx vy)
-fed (drop id t) = Ledger.drop id t
-fed (ask method asked lowX lowY highX highY list) = Ledger.ask method asked (rectOf lowX lowY highX highY) (length list)
+abbrev pub fed : HostCall → Ledger.Fed
+fed call = record { call = callOf call; room = length (listOf call) }
 
 -- what a host sees of a call: its reply, and of an accepted ask the ids in front of the list
 pub record Seen : Type 0 where
@@ -44,8 +58,8 @@ abbrev pub seenOf : Ledger.Reply → Seen
 seenOf l = record { reply = replyOf (l .answer); ids = l .ids }
 
 -- a call that may change the words, made as its exported function promises
-pub record Changes (promise : Reply → List ℤ → List ℤ → Type 0) (seen : Seen) (w : Words) : Type 0 where
-  pub promised : promise (seen .reply) (w .store) (w .table)
+pub record Changes (promise : Reply → Words → Type 0) (seen : Seen) (w : Words) : Type 0 where
+  pub promised : promise (seen .reply) w
   pub no-ids : seen .ids ≡ []
 
 -- an ask made so: it leaves the words, and its list as `left`
@@ -56,12 +70,12 @@ pub record Asks (promise : Reply → List ℕ → Type 0) (before : Words) (seen
   pub words-stay : after ≡ before
 
 unfoldable pub Made : Words → HostCall → Seen → Words → Type 0
-Made w (clock t) seen after = Changes (Replies (clockOut (w .store) (w .table) t)) seen after
-Made w (add id t x y vx vy) seen after = Changes (Replies (addOut (w .store) (w .table) (reportOf id t x y vx vy))) seen after
-Made w (report id t x y vx vy) seen after = Changes (Replies (reportOut (w .store) (w .table) (reportOf id t x y vx vy))) seen after
-Made w (drop id t) seen after = Changes (Replies (dropOut (w .store) (w .table) id t)) seen after
+Made w (clock t) seen after = Changes (Replies (clockOut w t)) seen after
+Made w (add id t x y vx vy) seen after = Changes (Replies (changeOut w (Change.Add (reportOf id t x y vx vy)))) seen after
+Made w (report id t x y vx vy) seen after = Changes (Replies (changeOut w (Change.Report (reportOf id t x y vx vy)))) seen after
+Made w (drop id t) seen after = Changes (Replies (changeOut w (Change.Drop id t))) seen after
 Made w (ask method asked lowX lowY highX highY list) seen after =
-    Asks (RepliesList (askOut (w .store) (w .table) method asked (rectOf lowX lowY highX highY) list)) w seen after
+    Asks (RepliesList (askOut w (askOf method asked lowX lowY highX highY) list)) w seen after
 
 -- calls made one after the other, each lent the words as the one before left them, and what was seen of each
 pub data AllMade : Words → List HostCall → List Seen → Type 0 where
@@ -73,8 +87,8 @@ pub data AllMade : Words → List HostCall → List Seen → Type 0 where
 
 abbrev pub HostsSeeTheLedger : Type 0
 HostsSeeTheLedger =
-    (s t : List ℤ) (time : ℤ) (r : Reply) (w : Words)
-    → Replies (openOut s t time) r (w .store) (w .table)
+    (lent : Words) (time : ℤ) (r : Reply) (w : Words)
+    → Replies (openOut lent time) r w
     → r .number ≡ 0
     → (calls : List HostCall) (seen : List Seen)
     → AllMade w calls seen

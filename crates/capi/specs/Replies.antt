@@ -6,9 +6,12 @@ use Prim.Native.Nat.{ℕ}
 use lib.IntN.{ℤ}
 use Rattle.grid.specs.declared.Rect.{Rect}
 use Rattle.grid.specs.declared.Report.{Report}
+use Rattle.records.specs.Words.{Words}
 use Rattle.ledger.specs.Answers.{numberOf, valueOf, countsOf}
 use Rattle.ledger.specs.declared.Answer.{Answer}
-use Rattle.engine.specs.Index.{Outcome, AskOutcome}
+use Rattle.ledger.specs.declared.Ask.{Ask}
+use Rattle.asking.specs.Asking.{AskOutcome}
+use Rattle.engine.specs.Index.{Outcome}
 use Rattle.capi.specs.declared.Reply.{Reply}
 
 -- an answer's numbers
@@ -35,11 +38,15 @@ abbrev pub rectOf : ℤ → ℤ → ℤ → ℤ → Rect
 rectOf lowX lowY highX highY =
     record { x = record { low = lowX; high = highX }; y = record { low = lowY; high = highY } }
 
+-- an ask: the method, the asked time, the rectangle
+abbrev pub askOf : ℤ → ℤ → ℤ → ℤ → ℤ → ℤ → Ask
+askOf method asked lowX lowY highX highY =
+    record { method = method; query = record { rect = rectOf lowX lowY highX highY; time = asked } }
+
 -- a call's reply and words at exit are those of its definition
-pub record Replies (o : Outcome) (r : Reply) (s t : List ℤ) : Type 0 where
+pub record Replies (o : Outcome) (r : Reply) (w : Words) : Type 0 where
   pub reply-is : r ≡ replyOf (o .answer)
-  pub store-is : s ≡ o .store
-  pub table-is : t ≡ o .table
+  pub words-are : w ≡ o .words
 
 pub record RepliesList (o : AskOutcome) (r : Reply) (list : List ℕ) : Type 0 where
   pub reply-is : r ≡ replyOf (o .answer)

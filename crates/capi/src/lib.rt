@@ -1,13 +1,17 @@
 // The index for programs in C and Rust: the six calls over pointers and lengths, with any numbers and any buffers, and the soundness test alone.
 // Each call gives back the number, the value and the counts that document 01 has for its answer, and leaves the words that its definition says.
 ghost use mathlib.Core.Path.{_≡_};
-ghost use Rattle.records.specs.Soundness.{isSound};
-ghost use Rattle.engine.specs.Index.{openOut, clockOut, addOut, reportOut, dropOut, askOut};
-ghost use Rattle.capi.specs.Replies.{replyOf, plain, reportOf, rectOf, Replies, RepliesList};
+ghost use Rattle.records.specs.Words.{words, areSound};
+ghost use Rattle.ledger.specs.declared.Change.the-variants as Change;
+ghost use Rattle.engine.specs.Index.{openOut, clockOut, changeOut, askOut};
+ghost use Rattle.capi.specs.Replies.{replyOf, plain, reportOf, askOf, Replies, RepliesList};
+use grid::Query;
 use grid::Range;
 use grid::Rect;
 use grid::Report;
+use grid::wide_signed;
 use ledger::Answer;
+use ledger::Ask;
 
 // What a call gives back: the number of a refusal (0: accepted), the value, and an accepted ask's cells read, useful cells and rounds.
 #[repr(C)]
@@ -61,23 +65,23 @@ fn report_of(id: i32, t: i32, x: i32, y: i32, vx: i32, vy: i32) -> Report
     }
 }
 
-fn wide(z: i32) -> i64
-    ensures { λ r. ⌜ r ≡ z ⌝ }
+fn ask_of(method: i32, asked: i32, low_x: i32, low_y: i32, high_x: i32, high_y: i32) -> Ask
+    ensures { λ r. ⌜ r ≡ askOf method asked «low_x» «low_y» «high_x» «high_y» ⌝ }
 {
-    z as i64
-}
-
-fn rect_of(low_x: i32, low_y: i32, high_x: i32, high_y: i32) -> Rect
-    ensures { λ r. ⌜ r ≡ rectOf «low_x» «low_y» «high_x» «high_y» ⌝ }
-{
-    Rect {
-        x: Range {
-            low: wide(low_x),
-            high: wide(high_x),
-        },
-        y: Range {
-            low: wide(low_y),
-            high: wide(high_y),
+    Ask {
+        method: method,
+        query: Query {
+            rect: Rect {
+                x: Range {
+                    low: wide_signed(low_x),
+                    high: wide_signed(high_x),
+                },
+                y: Range {
+                    low: wide_signed(low_y),
+                    high: wide_signed(high_y),
+                },
+            },
+            time: asked,
         },
     }
 }
@@ -85,7 +89,7 @@ fn rect_of(low_x: i32, low_y: i32, high_x: i32, high_y: i32) -> Rect
 // Opens the index at time t, whatever the buffers held.
 #[no_mangle]
 pub extern "C" fn float_index_open(store: &mut [i32], table: &mut [i16], t: i32) -> Reply
-    ensures { λ r. ⌜ Replies (openOut (now (store .entry)) (now (table .entry)) t) r (now (store .exit)) (now (table .exit)) ⌝ }
+    ensures { λ r. ⌜ Replies (openOut (words (now (store .entry)) (now (table .entry))) t) r (words (now (store .exit)) (now (table .exit))) ⌝ }
 {
     reply_of(engine::open(store, table, t))
 }
@@ -93,7 +97,7 @@ pub extern "C" fn float_index_open(store: &mut [i32], table: &mut [i16], t: i32)
 // The clock goes to time t.
 #[no_mangle]
 pub extern "C" fn float_index_clock(store: &mut [i32], table: &mut [i16], t: i32) -> Reply
-    ensures { λ r. ⌜ Replies (clockOut (now (store .entry)) (now (table .entry)) t) r (now (store .exit)) (now (table .exit)) ⌝ }
+    ensures { λ r. ⌜ Replies (clockOut (words (now (store .entry)) (now (table .entry))) t) r (words (now (store .exit)) (now (table .exit))) ⌝ }
 {
     reply_of(engine::clock(store, table, t))
 }
@@ -110,7 +114,7 @@ pub extern "C" fn float_index_add(
     vx: i32,
     vy: i32,
 ) -> Reply
-    ensures { λ r. ⌜ Replies (addOut (now (store .entry)) (now (table .entry)) (reportOf id t x y vx vy)) r (now (store .exit)) (now (table .exit)) ⌝ }
+    ensures { λ r. ⌜ Replies (changeOut (words (now (store .entry)) (now (table .entry))) (Change.Add (reportOf id t x y vx vy))) r (words (now (store .exit)) (now (table .exit))) ⌝ }
 {
     reply_of(engine::add(store, table, report_of(id, t, x, y, vx, vy)))
 }
@@ -127,7 +131,7 @@ pub extern "C" fn float_index_report(
     vx: i32,
     vy: i32,
 ) -> Reply
-    ensures { λ r. ⌜ Replies (reportOut (now (store .entry)) (now (table .entry)) (reportOf id t x y vx vy)) r (now (store .exit)) (now (table .exit)) ⌝ }
+    ensures { λ r. ⌜ Replies (changeOut (words (now (store .entry)) (now (table .entry))) (Change.Report (reportOf id t x y vx vy))) r (words (now (store .exit)) (now (table .exit))) ⌝ }
 {
     reply_of(engine::report(store, table, report_of(id, t, x, y, vx, vy)))
 }
@@ -135,7 +139,7 @@ pub extern "C" fn float_index_report(
 // A held float is taken out at time t.
 #[no_mangle]
 pub extern "C" fn float_index_drop(store: &mut [i32], table: &mut [i16], id: i32, t: i32) -> Reply
-    ensures { λ r. ⌜ Replies (dropOut (now (store .entry)) (now (table .entry)) id t) r (now (store .exit)) (now (table .exit)) ⌝ }
+    ensures { λ r. ⌜ Replies (changeOut (words (now (store .entry)) (now (table .entry))) (Change.Drop id t)) r (words (now (store .exit)) (now (table .exit))) ⌝ }
 {
     reply_of(engine::drop(store, table, id, t))
 }
@@ -153,22 +157,20 @@ pub extern "C" fn float_index_ask(
     high_x: i32,
     high_y: i32,
 ) -> Reply
-    ensures { λ r. ⌜ RepliesList (askOut (now (store .entry)) (now (table .entry)) method asked (rectOf «low_x» «low_y» «high_x» «high_y») (now (list .entry))) r (now (list .exit)) ⌝ }
+    ensures { λ r. ⌜ RepliesList (askOut (words (now (store .entry)) (now (table .entry))) (askOf method asked «low_x» «low_y» «high_x» «high_y») (now (list .entry))) r (now (list .exit)) ⌝ }
 {
     reply_of(engine::ask(
         store,
         table,
         list,
-        method,
-        asked,
-        rect_of(low_x, low_y, high_x, high_y),
+        ask_of(method, asked, low_x, low_y, high_x, high_y),
     ))
 }
 
 // Whether a store and a table have their lengths and are sound, so that no call refuses them with 1 or 2.
 #[no_mangle]
 pub extern "C" fn float_index_is_sound(store: &[i32], table: &[i16]) -> bool
-    ensures { λ r. ⌜ r ≡ isSound (now (store .entry)) (now (table .entry)) ⌝ }
+    ensures { λ r. ⌜ r ≡ areSound (words (now (store .entry)) (now (table .entry))) ⌝ }
 {
     records::soundness::is_sound(store, table)
 }

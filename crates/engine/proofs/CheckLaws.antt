@@ -1,86 +1,177 @@
--- The chain of checks, one at a time: the first to fail is given, one that passes is passed over. And what the first two checks, of the lent
--- words, leave for the others.
+-- What the first two checks, of the lent words, leave for the others; and what the checks of a clock, a change and an ask say when they are passed.
 -- Assumes nothing.
 use mathlib.Core.Path.{_≡_, refl, sym, ap, _∙_}
-use mathlib.Core.Bool.{Bool, true, false, not}
+use mathlib.Core.Bool.{Bool, true, false, not, _&&_}
 use mathlib.Core.List.{List, [], _∷_}
-use Prim.Native.Nat.{suc}
-use lib.Dec.{eqb}
+use Prim.Native.Nat.{ℕ}
+use native.Mathlib.Omega.{arith}
+use lib.Dec.{eqb, leb}
 use lib.IntN.{ℤ}
 use lib.ListN.{length}
-use borrow.Author.Tests.{eq-eqb, not-false}
-use Rattle.ints.proofs.Parts.{true-false}
-use Rattle.ints.proofs.Truth.{and-true}
-use Rattle.records.specs.Records.{storeWords, nowOf, recordsOf}
-use Rattle.records.proofs.RecordLaws.{store-length}
-use Rattle.records.specs.Soundness.{isSound, IsStore}
-use Rattle.records.specs.Order.{hasId}
-use Rattle.store.specs.Changes.{removed, steppedRecords}
-use Rattle.store.proofs.KeepLaws.{removed-length, has-stepped, stepped-length}
-use Rattle.records.proofs.SoundLaws as Sound
-use Rattle.rows.specs.Phases.{phaseOf}
+use lib.Signed.{ltZ}
+use borrow.Author.Tests.{eq-eqb, eqb-true, leb-false, not-false}
+use Rattle.ints.proofs.Parts.{signed}
+use Rattle.ints.proofs.Truth.{and-true, and-left, and-right, or-neither}
+use Rattle.grid.specs.Units.{capacity}
+use Rattle.grid.specs.Reports.{isTime, inRange}
+use Rattle.grid.specs.declared.Report.{Report}
 use Rattle.rows.specs.Table.{tableWords}
-use Rattle.ledger.specs.Answers.{isAccepted}
-use Rattle.ledger.specs.Refusals.{Check, check, unless, firstToFail}
-use Rattle.ledger.specs.declared.Answer.{Answer}
-use Rattle.ledger.specs.declared.Answer.the-variants.{Accepted, Refused}
+use Rattle.records.specs.Records.{storeWords}
+use Rattle.records.specs.Order.{hasId}
+use Rattle.records.specs.Soundness.{IsStore}
+use Rattle.records.specs.Words.{Words, words, timeIn, recordsIn, areSound}
+use Rattle.records.specs.declared.Record.{Record}
+use Rattle.records.proofs.SoundLaws as Sound
+use Rattle.store.specs.Changes.{steppedRecords}
+use Rattle.store.proofs.KeepLaws.{has-stepped, stepped-length}
+use Rattle.words.specs.Words.{stepped}
+use Rattle.words.specs.Needs.{RightLengths, CanStep, CanPlace, CanReplace}
+use Rattle.words.proofs.StepLaws.{stepped-records, stepped-can-change}
+use Rattle.ledger.specs.Refusals.{Check, check, unless, firstToFail, badTime, badStepTime, badAskTime, badAsk, timeOf, idOf, badNumbers, heldChecks, changeChecks, askChecks}
+use Rattle.ledger.specs.declared.Ask.{Ask}
+use Rattle.ledger.specs.declared.Change.{Change}
+use Rattle.ledger.specs.declared.Change.the-variants as Change
 use Rattle.ledger.specs.declared.Refusal.{Refusal}
-use Rattle.ledger.specs.declared.Refusal.the-variants.{WrongLength, Unsound}
-use Rattle.engine.specs.Index.{wrongLength, unsound, lentChecks, recordsAfterStep}
+use Rattle.ledger.specs.declared.Refusal.the-variants.{WrongLength, Unsound, BadTime, BadNumber, AlreadyHeld, NotHeld, Full}
+use Rattle.ledger.specs.declared.Verdict.{Verdict}
+use Rattle.ledger.specs.declared.Verdict.the-variants.{Passed, Failed}
+use Rattle.ledger.proofs.VerdictLaws.{passes, not-both, first-passed, others-passed}
+use Rattle.asking.specs.Counted.{CanAsk, roomChecks}
+use Rattle.engine.specs.Index.{wrongLength, unsound, lentChecks, openChecks, checksOfChange}
+use Rattle.engine.specs.Needs.{CanMake, CanApply}
 
-pub fails : (b : Bool) (r : Refusal) (cs : List Check) (accepted : Answer) → b ≡ true → Refused r ≡ firstToFail (check b r ∷ cs) accepted
-unfolding firstToFail
-fails b r cs accepted e = rw e refl
+-- ---- the lent words
 
-pub passes : (b : Bool) (a : Refusal) (cs : List Check) (accepted r : Answer) → b ≡ false → r ≡ firstToFail cs accepted → r ≡ firstToFail (check b a ∷ cs) accepted
-unfolding firstToFail
-passes b a cs accepted r e h = rw e h
-
-pub accepts : (accepted r : Answer) → r ≡ accepted → r ≡ firstToFail [] accepted
-unfolding firstToFail
-accepts accepted r e = e
-
-pub store-words-of : (s : List ℤ) → IsStore s → length s ≡ storeWords
-store-words-of s h = ap length (h .words) ∙ store-length (nowOf s) (recordsOf s) (h .few)
-
--- ---- what an accepted chain of checks says of each
-
-pub accepted-passed : (b : Bool) (a : Refusal) (cs : List Check) (accepted : Answer) → isAccepted (firstToFail (check b a ∷ cs) accepted) ≡ true → (b ≡ false) × (isAccepted (firstToFail cs accepted) ≡ true)
-unfolding firstToFail
-accepted-passed true a cs accepted h = absurd (true-false (sym h))
-accepted-passed false a cs accepted h = (refl, h)
-
--- ---- the first two checks, of the lent words
-
-module _ (s t : List ℤ) (r : Answer) (e : r ≡ firstToFail (lentChecks s t []) (Accepted 0)) where
-  pub lent-refused : (more : List Check) (accepted : Answer) → isAccepted r ≡ false → r ≡ firstToFail (lentChecks s t more) accepted
+module _ (w : Words) where
+  -- refused for the lent words, whatever checks come after
+  pub lent-failed : (v : Verdict) (r : Refusal) → v ≡ firstToFail (lentChecks w []) → v ≡ Failed r → (more : List Check) → firstToFail (lentChecks w more) ≡ Failed r
   unfolding firstToFail
-  lent-refused more accepted n = e ∙ go (wrongLength s t) (unsound s t) (sym (ap isAccepted e) ∙ n)
+  lent-failed v r e f more = go (wrongLength w) (unsound w) (sym e ∙ f)
     where
-      go : (a b : Bool) → isAccepted (unless a WrongLength (unless b Unsound (Accepted 0))) ≡ false → unless a WrongLength (unless b Unsound (Accepted 0)) ≡ unless a WrongLength (unless b Unsound (firstToFail more accepted))
-      go true b h = refl
-      go false true h = refl
-      go false false h = absurd (true-false h)
+      go : (a b : Bool) → unless a WrongLength (unless b Unsound Passed) ≡ Failed r → unless a WrongLength (unless b Unsound (firstToFail more)) ≡ Failed r
+      go true b h = h
+      go false true h = h
+      go false false h = absurd (not-both refl h)
 
-  pub lent-sound : isAccepted r ≡ true → isSound s t ≡ true
-  lent-sound n =
-      let x = accepted-passed (wrongLength s t) WrongLength (check (unsound s t) Unsound ∷ []) (Accepted 0) (sym (ap isAccepted e) ∙ n) in
-      not-false (isSound s t) (accepted-passed (unsound s t) Unsound [] (Accepted 0) (x .1) .0)
+  pub lent-sound : (v : Verdict) → v ≡ firstToFail (lentChecks w []) → v ≡ Passed → areSound w ≡ true
+  lent-sound v e p =
+      let rest = others-passed (wrongLength w) WrongLength (check (unsound w) Unsound ∷ []) (sym e ∙ p) in
+      not-false (areSound w) (first-passed (unsound w) Unsound [] rest)
 
--- sound words pass both
-pub sound-passed : (s t : List ℤ) → isSound s t ≡ true → (more : List Check) (accepted a : Answer) → a ≡ firstToFail more accepted → a ≡ firstToFail (lentChecks s t more) accepted
-sound-passed s t h more accepted a e =
-    let p = Sound.sound-parts s t h in
-    let long = and-true (eqb (length s) storeWords) (eqb (length t) tableWords) (eq-eqb (length s) storeWords (p .store .long)) (eq-eqb (length t) tableWords (p .table-long)) in
-    passes (wrongLength s t) WrongLength (check (unsound s t) Unsound ∷ more) accepted a (ap not long)
-    (passes (unsound s t) Unsound more accepted a (ap not h) e)
+  pub right-lengths : wrongLength w ≡ false → RightLengths w
+  right-lengths h =
+      let s = eqb (length (w .store)) storeWords in
+      let t = eqb (length (w .table)) tableWords in
+      let both = not-false (s && t) h in
+      record {
+        store-long = eqb-true (length (w .store)) storeWords (and-left s t both);
+        table-long = eqb-true (length (w .table)) tableWords (and-right s t both);
+      }
 
-pub sound-is-store : (s t : List ℤ) → isSound s t ≡ true → IsStore s
-sound-is-store s t h = Sound.is-store s (Sound.sound-parts s t h .store)
+  pub opens-rightly : (v : Verdict) (t : ℤ) → v ≡ firstToFail (openChecks w t) → v ≡ Passed → RightLengths w
+  opens-rightly v t e p = right-lengths (first-passed (wrongLength w) WrongLength (check (badTime t) BadTime ∷ []) (sym e ∙ p))
 
--- a drop leaves one float fewer, whatever the step before it moves
-pub drop-count : (s : List ℤ) (id time : ℤ) → hasId id (recordsOf s) ≡ true → suc (length (removed id (recordsAfterStep s time))) ≡ length (recordsOf s)
-unfolding recordsAfterStep
-drop-count s id time h =
-    removed-length id (steppedRecords (phaseOf (nowOf s)) (phaseOf time) (recordsOf s)) (has-stepped id (phaseOf (nowOf s)) (phaseOf time) (recordsOf s) ∙ h)
-    ∙ stepped-length (phaseOf (nowOf s)) (phaseOf time) (recordsOf s)
+module _ (w : Words) (sound : areSound w ≡ true) where
+  parts : Sound.Sound (w .store) (w .table)
+  parts = Sound.sound-parts (w .store) (w .table) sound
+
+  pub sound-store : IsStore (w .store)
+  sound-store = Sound.is-store (w .store) (parts .store)
+
+  pub right-length : wrongLength w ≡ false
+  right-length =
+      let s = eqb (length (w .store)) storeWords in
+      let t = eqb (length (w .table)) tableWords in
+      ap not (and-true s t (eq-eqb (length (w .store)) storeWords (parts .store .long)) (eq-eqb (length (w .table)) tableWords (parts .table-long)))
+
+  -- sound words pass both
+  pub sound-lent : (more : List Check) → firstToFail more ≡ firstToFail (lentChecks w more)
+  sound-lent more =
+      passes (wrongLength w) WrongLength (check (unsound w) Unsound ∷ more) _ right-length
+      (passes (unsound w) Unsound more _ (ap not sound) refl)
+
+  -- ---- what a clock that passed its check says
+
+  pub can-step : (t : ℤ) → badStepTime (timeIn w) t ≡ false → CanStep w t
+  can-step t h =
+      let n = or-neither (not (isTime t)) (ltZ t (timeIn w)) h in
+      let later = n .1 in
+      record { sound = sound; is-time = not-false (isTime t) (n .0); not-past = omega (arith, signed) }
+
+  pub ask-passed : (ask : Ask) → firstToFail (check (badAskTime (timeIn w) (ask .query)) BadTime ∷ check (badAsk ask) BadNumber ∷ []) ≡ Passed → CanAsk w ask
+  ask-passed ask p =
+      let late = badAskTime (timeIn w) (ask .query) in
+      let bad = badAsk ask in
+      let rest = check bad BadNumber ∷ [] in
+      record { sound = sound; good-time = first-passed late BadTime rest p; good-numbers = first-passed bad BadNumber [] (others-passed late BadTime rest p) }
+
+-- an ask that passed the checks up to 4 has the room's left, and one that did not is refused all the same
+module _ (now : ℤ) (ask : Ask) (room needed : ℕ) where
+  abbrev late : Bool
+  late = badAskTime now (ask .query)
+
+  abbrev bad : Bool
+  bad = badAsk ask
+
+  pub ask-failed : (r : Refusal) → firstToFail (check late BadTime ∷ check bad BadNumber ∷ []) ≡ Failed r → firstToFail (askChecks now ask room needed) ≡ Failed r
+  unfolding firstToFail
+  ask-failed r h = go late bad h
+    where
+      go : (a b : Bool) → unless a BadTime (unless b BadNumber Passed) ≡ Failed r → unless a BadTime (unless b BadNumber (firstToFail (roomChecks room needed))) ≡ Failed r
+      go true b k = k
+      go false true k = k
+      go false false k = absurd (not-both refl k)
+
+  pub room-left : late ≡ false → bad ≡ false → firstToFail (roomChecks room needed) ≡ firstToFail (askChecks now ask room needed)
+  room-left e f = passes late BadTime (check bad BadNumber ∷ roomChecks room needed) _ e (passes bad BadNumber (roomChecks room needed) _ f refl)
+
+-- ---- a change
+
+-- the clock step moves floats and neither adds nor loses one: who is held after it was held before
+pub judged-after : (now : ℤ) (rs : List Record) (c : Change) → changeChecks now c (hasId (idOf c) rs) (length rs) ≡ checksOfChange now rs c
+judged-after now rs c =
+    λ i. changeChecks now c (sym (has-stepped now (timeOf c) (idOf c) rs) i) (sym (stepped-length now (timeOf c) rs) i)
+
+module _ (w : Words) (c : Change) (can : CanMake w c) where
+  abbrev rest : List Check
+  rest =
+      let after = steppedRecords (timeIn w) (timeOf c) (recordsIn w) in
+      check (badNumbers c) BadNumber ∷ heldChecks c (hasId (idOf c) after) (length after)
+
+  pub change-can-step : CanStep w (timeOf c)
+  change-can-step = can-step w (can .sound) (timeOf c) (first-passed (badStepTime (timeIn w) (timeOf c)) BadTime rest (can .passed))
+
+  numbers-passed : firstToFail rest ≡ Passed
+  numbers-passed = others-passed (badStepTime (timeIn w) (timeOf c)) BadTime rest (can .passed)
+
+  pub change-can-apply : CanApply (stepped (timeOf c) w) c
+  change-can-apply = record {
+    can-change = stepped-can-change w (timeOf c) change-can-step;
+    is-time = change-can-step .is-time;
+    good-numbers = first-passed (badNumbers c) BadNumber _ numbers-passed;
+    held-good = rw (stepped-records w (timeOf c) change-can-step) (others-passed (badNumbers c) BadNumber _ numbers-passed);
+  }
+
+-- what the words must be for each change, where its checks are passed
+module _ (w : Words) where
+  pub can-add : (r : Report) → CanApply w (Change.Add r) → CanPlace w r
+  can-add r can =
+      let isHeld = hasId (r .id) (recordsIn w) in
+      let full = leb capacity (length (recordsIn w)) in
+      let room = first-passed full Full [] (others-passed isHeld AlreadyHeld (check full Full ∷ []) (can .held-good)) in
+      record {
+        can-change = can .can-change;
+        room = leb-false capacity (length (recordsIn w)) room;
+        in-range = not-false (inRange r) (can .good-numbers);
+        is-time = can .is-time;
+      }
+
+  pub can-report : (r : Report) → CanApply w (Change.Report r) → CanReplace w r
+  can-report r can =
+      let isHeld = hasId (r .id) (recordsIn w) in
+      record {
+        can-change = can .can-change;
+        is-held = not-false isHeld (first-passed (not isHeld) NotHeld [] (can .held-good));
+        in-range = not-false (inRange r) (can .good-numbers);
+        is-time = can .is-time;
+      }

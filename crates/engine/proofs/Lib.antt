@@ -1,9 +1,3 @@
-pub mod AskLaws
-pub mod ListIsExact
-pub mod Counts
 pub mod CheckLaws
-pub mod StepLaws
 pub mod GivesLaws
-pub mod AskingLaws
-pub mod CallLaws
 pub mod SmallAnswers

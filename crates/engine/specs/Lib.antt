@@ -1,4 +1,3 @@
 pub mod Index
 pub mod Gives
-pub mod Counted
-pub mod Claims
+pub mod Needs

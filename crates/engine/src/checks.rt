@@ -1,30 +1,33 @@
-// The checks of the calls, in number order, the first to fail given, `Accepted` where all pass: those of the lent buffers (`lent_answer`), and those
-// that go by the numbers and the records of buffers known to be sound.
+// The checks of the calls, in number order, the first to fail given: those of the lent buffers (`lent_verdict`), and those that go by the numbers
+// and the records of buffers known to be sound.
 ghost use mathlib.Core.Path.{_≡_};
-ghost use mathlib.Core.Bool.{_&&_};
+ghost use mathlib.Core.Bool.{_&&_, not};
 ghost use mathlib.Core.List.{[], _∷_};
-ghost use Prim.Native.Nat.{suc, _<_, _≤_, _^_};
+ghost use Prim.Native.Nat.{_<_, _≤_, _^_};
+ghost use lib.Dec.{leb};
 ghost use lib.IntN.{natAbs, pos, _+ℤ_, _-ℤ_};
 ghost use lib.Signed.{leZ};
 ghost use lib.ListN.{length};
 ghost use Rattle.ints.specs.Whole.{between};
 ghost use Rattle.grid.specs.Reports.{isTime, isId, isPosition};
+ghost use Rattle.grid.specs.Units.{capacity};
 ghost use Rattle.records.specs.Records.{recordsOf, nowOf};
 ghost use Rattle.records.specs.Soundness.{IsStore};
-ghost use Rattle.store.specs.Changes.{removed};
-ghost use Rattle.ledger.specs.Answers.{isAccepted};
-ghost use Rattle.ledger.specs.Refusals.{check, firstToFail, badStepTime, badAskTime, badAsk, isRectangle};
-ghost use Rattle.ledger.specs.declared.Answer.the-variants.{Accepted};
-ghost use Rattle.ledger.specs.declared.Refusal.the-variants.{BadTime, BadNumber};
-ghost use Rattle.engine.specs.Index.{wrongLength, lentChecks, clockChecks, addChecks, reportChecks, dropChecks, recordsAfterStep, openAnswer};
+ghost use Rattle.records.specs.Words.{words};
+ghost use Rattle.ledger.specs.Refusals.{check, firstToFail, badStepTime, badAskTime, badAsk, isRectangle, clockChecks, badNumbers, heldChecks};
+ghost use Rattle.ledger.specs.declared.Refusal.the-variants.{BadTime, BadNumber, AlreadyHeld, NotHeld, Full};
+ghost use Rattle.engine.specs.Index.{wrongLength, openChecks, lentChecks, checksOfChange};
 use grid::LAST_ID;
 use grid::LAST_POSITION;
 use grid::LAST_TIME;
+use grid::Query;
 use grid::Range;
 use grid::Rect;
-use grid::Report;
-use ledger::Answer;
+use grid::wide_signed;
+use ledger::Ask;
+use ledger::Change;
 use ledger::Refusal;
+use ledger::Verdict;
 
 // A corner of a rectangle is compared in 64 bits.
 const LAST_CORNER: i64 = LAST_POSITION as i64;
@@ -34,19 +37,9 @@ const ASK_BEFORE: i64 = 3600;
 
 const ASK_AFTER: i64 = 7200;
 
-pub fn is_accepted(a: Answer) -> bool
-    ensures { λ r. ⌜ r ≡ isAccepted a ⌝ }
-{
-    match a {
-        Answer::Accepted(_) => true,
-        Answer::Listed(_, _, _, _) => true,
-        Answer::Refused(_) => false,
-    }
-}
-
 // 1: a buffer of another length.
 pub fn wrong_length(store: &[i32], table: &[i16]) -> bool
-    ensures { λ r. ⌜ r ≡ wrongLength (now (store .entry)) (now (table .entry)) ⌝ }
+    ensures { λ r. ⌜ r ≡ wrongLength (words (now (store .entry)) (now (table .entry))) ⌝ }
 {
     if store.len() != records::STORE_WORDS {
         return true;
@@ -74,7 +67,7 @@ fn bad_step_time(store: &[i32], t: i32) -> bool
     if !is_time(t) {
         return true;
     }
-    t < store[0]
+    wide_signed(t) < records::now_of(store)
 }
 
 // Whether an ask lies near enough to the time of the store.
@@ -85,21 +78,15 @@ fn is_near(time: i64, asked: i64) -> bool
     time - ASK_BEFORE <= asked && asked <= time + ASK_AFTER
 }
 
-fn wide(z: i32) -> i64
-    ensures { λ r. ⌜ (r ≡ z) × (natAbs r ≤ 2 ^ 31) ⌝ }
-{
-    z as i64
-}
-
 // 3, for ask.
-fn bad_ask_time(store: &[i32], asked: i32) -> bool
+fn bad_ask_time(store: &[i32], query: Query) -> bool
     requires { ⌜ 0 < length (now store) ⌝ }
-    ensures { λ r. ⌜ r ≡ badAskTime (nowOf (now (store .entry))) asked ⌝ }
+    ensures { λ r. ⌜ r ≡ badAskTime (nowOf (now (store .entry))) query ⌝ }
 {
-    if !is_time(asked) {
+    if !is_time(query.time) {
         return true;
     }
-    !is_near(wide(store[0]), wide(asked))
+    !is_near(records::now_of(store), query.wide_time())
 }
 
 fn is_position(z: i64) -> bool
@@ -140,114 +127,120 @@ fn is_method(method: i32) -> bool
 }
 
 // 4, for ask.
-fn bad_ask(method: i32, q: Rect) -> bool
-    ensures { λ r. ⌜ r ≡ badAsk method q ⌝ }
+fn bad_ask(ask: Ask) -> bool
+    ensures { λ r. ⌜ r ≡ badAsk ask ⌝ }
 {
-    if !is_method(method) {
+    if !is_method(ask.method) {
         return true;
     }
-    !is_rectangle(q)
+    !is_rectangle(ask.query.rect)
 }
 
 // 1 and 2.
-pub fn lent_answer(store: &[i32], table: &[i16]) -> Answer
-    ensures { λ r. ⌜ r ≡ firstToFail (lentChecks (now (store .entry)) (now (table .entry)) []) (Accepted 0) ⌝ }
+pub fn lent_verdict(store: &[i32], table: &[i16]) -> Verdict
+    ensures { λ v. ⌜ v ≡ firstToFail (lentChecks (words (now (store .entry)) (now (table .entry))) []) ⌝ }
 {
     if wrong_length(store, table) {
-        return Answer::Refused(Refusal::WrongLength);
+        return Verdict::Failed(Refusal::WrongLength);
     }
     if !records::soundness::is_sound(store, table) {
-        return Answer::Refused(Refusal::Unsound);
+        return Verdict::Failed(Refusal::Unsound);
     }
-    Answer::Accepted(0)
+    Verdict::Passed
 }
 
-pub fn open_answer(store: &[i32], table: &[i16], t: i32) -> Answer
-    ensures { λ r. ⌜ r ≡ openAnswer (now (store .entry)) (now (table .entry)) t ⌝ }
+pub fn open_verdict(store: &[i32], table: &[i16], t: i32) -> Verdict
+    ensures { λ v. ⌜ v ≡ firstToFail (openChecks (words (now (store .entry)) (now (table .entry))) t) ⌝ }
 {
     if wrong_length(store, table) {
-        return Answer::Refused(Refusal::WrongLength);
+        return Verdict::Failed(Refusal::WrongLength);
     }
     if !is_time(t) {
-        return Answer::Refused(Refusal::BadTime);
+        return Verdict::Failed(Refusal::BadTime);
     }
-    Answer::Accepted(0)
+    Verdict::Passed
 }
 
-pub fn clock_answer(store: &[i32], t: i32) -> Answer
+pub fn clock_verdict(store: &[i32], t: i32) -> Verdict
     requires { ⌜ IsStore (now store) ⌝ }
-    ensures { λ r. ⌜ r ≡ firstToFail (clockChecks (now (store .entry)) t) (Accepted (length (recordsOf (now (store .entry))))) ⌝ }
+    ensures { λ v. ⌜ v ≡ firstToFail (clockChecks (nowOf (now (store .entry))) t) ⌝ }
 {
     if bad_step_time(store, t) {
-        return Answer::Refused(Refusal::BadTime);
+        return Verdict::Failed(Refusal::BadTime);
     }
-    Answer::Accepted(records::held_of(store))
+    Verdict::Passed
 }
 
-pub fn add_answer(store: &[i32], r: Report) -> Answer
-    requires { ⌜ IsStore (now store) ⌝ }
-    ensures { λ a. ⌜ a ≡ firstToFail (addChecks (now (store .entry)) r) (Accepted (suc (length (recordsOf (now (store .entry)))))) ⌝ }
+// 4, for a change.
+fn bad_numbers(c: Change) -> bool
+    ensures { λ r. ⌜ r ≡ badNumbers c ⌝ }
 {
-    if bad_step_time(store, r.t) {
-        return Answer::Refused(Refusal::BadTime);
+    match c {
+        Change::Add(r) => !records::soundness::in_range(r),
+        Change::Report(r) => !records::soundness::in_range(r),
+        Change::Drop(id, _) => !is_id(id),
     }
-    if !records::soundness::in_range(r) {
-        return Answer::Refused(Refusal::BadNumber);
+}
+
+// 5 and 7: of an add.
+fn add_verdict(is_held: bool, held: usize) -> Verdict
+    ensures { λ v. ⌜ v ≡ firstToFail (check «is_held» AlreadyHeld ∷ check (leb capacity held) Full ∷ []) ⌝ }
+{
+    if is_held {
+        return Verdict::Failed(Refusal::AlreadyHeld);
     }
-    if store::changes::has_id(store, r.id) {
-        return Answer::Refused(Refusal::AlreadyHeld);
-    }
-    let held = records::held_of(store);
     if records::CAPACITY <= held {
-        return Answer::Refused(Refusal::Full);
+        return Verdict::Failed(Refusal::Full);
     }
-    let after = held + 1;
-    Answer::Accepted(after)
+    Verdict::Passed
 }
 
-pub fn report_answer(store: &[i32], r: Report) -> Answer
-    requires { ⌜ IsStore (now store) ⌝ }
-    ensures { λ a. ⌜ a ≡ firstToFail (reportChecks (now (store .entry)) r) (Accepted (length (recordsOf (now (store .entry))))) ⌝ }
+// 6: of a report or a drop.
+fn held_verdict(is_held: bool) -> Verdict
+    ensures { λ v. ⌜ v ≡ firstToFail (check (not «is_held») NotHeld ∷ []) ⌝ }
 {
-    if bad_step_time(store, r.t) {
-        return Answer::Refused(Refusal::BadTime);
+    if !is_held {
+        return Verdict::Failed(Refusal::NotHeld);
     }
-    if !records::soundness::in_range(r) {
-        return Answer::Refused(Refusal::BadNumber);
-    }
-    if !store::changes::has_id(store, r.id) {
-        return Answer::Refused(Refusal::NotHeld);
-    }
-    Answer::Accepted(records::held_of(store))
+    Verdict::Passed
 }
 
-pub fn drop_answer(store: &[i32], id: i32, t: i32) -> Answer
-    requires { ⌜ IsStore (now store) ⌝ }
-    ensures { λ r. ⌜ r ≡ firstToFail (dropChecks (now (store .entry)) id t) (Accepted (length (removed id (recordsAfterStep (now (store .entry)) t)))) ⌝ }
+// 5 to 7, by whether the float is held and how many are.
+fn verdict_by_held(c: Change, is_held: bool, held: usize) -> Verdict
+    ensures { λ v. ⌜ v ≡ firstToFail (heldChecks c «is_held» held) ⌝ }
 {
-    if bad_step_time(store, t) {
-        return Answer::Refused(Refusal::BadTime);
+    match c {
+        Change::Add(_) => add_verdict(is_held, held),
+        Change::Report(_) => held_verdict(is_held),
+        Change::Drop(_, _) => held_verdict(is_held),
     }
-    if !is_id(id) {
-        return Answer::Refused(Refusal::BadNumber);
+}
+
+// Who is held is judged before the clock step: it moves floats and neither adds nor loses one.
+pub fn change_verdict(store: &[i32], c: Change) -> Verdict
+    requires { ⌜ IsStore (now store) ⌝ }
+    ensures { λ v. ⌜ v ≡ firstToFail (checksOfChange (nowOf (now (store .entry))) (recordsOf (now (store .entry))) c) ⌝ }
+{
+    if bad_step_time(store, c.time()) {
+        return Verdict::Failed(Refusal::BadTime);
     }
-    if !store::changes::has_id(store, id) {
-        return Answer::Refused(Refusal::NotHeld);
+    if bad_numbers(c) {
+        return Verdict::Failed(Refusal::BadNumber);
     }
-    let after = records::held_of(store) - 1;
-    Answer::Accepted(after)
+    let is_held = store::changes::has_id(store, c.id());
+    verdict_by_held(c, is_held, records::held_of(store))
 }
 
 // The checks of an ask but the last, which wants the ids found.
-pub fn ask_refusal(store: &[i32], method: i32, asked: i32, q: Rect) -> Answer
+pub fn ask_verdict(store: &[i32], ask: Ask) -> Verdict
     requires { ⌜ IsStore (now store) ⌝ }
-    ensures { λ r. ⌜ r ≡ firstToFail (check (badAskTime (nowOf (now (store .entry))) asked) BadTime ∷ check (badAsk method q) BadNumber ∷ []) (Accepted 0) ⌝ }
+    ensures { λ v. ⌜ v ≡ firstToFail (check (badAskTime (nowOf (now (store .entry))) (ask .query)) BadTime ∷ check (badAsk ask) BadNumber ∷ []) ⌝ }
 {
-    if bad_ask_time(store, asked) {
-        return Answer::Refused(Refusal::BadTime);
+    if bad_ask_time(store, ask.query) {
+        return Verdict::Failed(Refusal::BadTime);
     }
-    if bad_ask(method, q) {
-        return Answer::Refused(Refusal::BadNumber);
+    if bad_ask(ask) {
+        return Verdict::Failed(Refusal::BadNumber);
     }
-    Answer::Accepted(0)
+    Verdict::Passed
 }

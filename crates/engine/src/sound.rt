@@ -1,95 +1,108 @@
-// The calls over buffers known to be sound, which they do not test again: the checks that go by the numbers and the records, then the work. What
+// The calls over words known to be sound, which they do not test again: the checks that go by the numbers and the records, then the work. What
 // each answers and leaves is what the public call of its name does.
 ghost use mathlib.Core.Path.{_≡_};
 ghost use mathlib.Core.Bool.{true};
-ghost use Rattle.records.specs.Soundness.{isSound};
-ghost use Rattle.engine.specs.Index.{clockOut, addOut, reportOut, dropOut, askOut};
-ghost use Rattle.engine.specs.Gives.{Gives, GivesList};
-use crate::asking::ask_sound;
-use crate::checks::add_answer;
-use crate::checks::ask_refusal;
-use crate::checks::clock_answer;
-use crate::checks::drop_answer;
-use crate::checks::is_accepted;
-use crate::checks::report_answer;
-use crate::step::place;
-use crate::step::step;
-use crate::step::take_out;
-use grid::Rect;
-use grid::Report;
+ghost use Prim.Native.Nat.{_<_};
+ghost use lib.ListN.{length};
+ghost use Rattle.records.specs.Records.{recordsOf};
+ghost use Rattle.records.specs.Words.{words, areSound};
+ghost use Rattle.words.specs.Needs.{CanStep};
+ghost use Rattle.words.specs.Words.{stepped};
+ghost use Rattle.ledger.specs.Refusals.{timeOf};
+ghost use Rattle.ledger.specs.declared.Answer.the-variants.{Accepted};
+ghost use Rattle.asking.specs.Asking.{GivesList};
+ghost use Rattle.engine.specs.Index.{clockOut, changed, changeOut, askOut, callOut};
+ghost use Rattle.engine.specs.Gives.{Gives, GivesCall};
+ghost use Rattle.engine.specs.Needs.{CanMake, CanApply, Done};
+use crate::checks::ask_verdict;
+use crate::checks::change_verdict;
+use crate::checks::clock_verdict;
 use ledger::Answer;
+use ledger::Ask;
+use ledger::Call;
+use ledger::Change;
+use ledger::Verdict;
+
+// The answer of an accepted open, clock or change: the floats held after it.
+pub fn accepted(store: &[i32]) -> Answer
+    requires { ⌜ 1 < length (now store) ⌝ }
+    ensures { λ a. ⌜ a ≡ Accepted (length (recordsOf (now (store .entry)))) ⌝ }
+{
+    Answer::Accepted(records::held_of(store))
+}
+
+// A clock step that passed its check.
+fn make_step(store: &mut [i32], table: &mut [i16], t: i32) -> Answer
+    requires { ⌜ CanStep (words (now store) (now table)) t ⌝ }
+    ensures { λ a. ⌜ Done (stepped t (words (now (store .entry)) (now (table .entry)))) a (words (now (store .exit)) (now (table .exit))) ⌝ }
+{
+    words::step(store, table, t);
+    accepted(store)
+}
 
 // The clock goes to time t.
 pub fn clock(store: &mut [i32], table: &mut [i16], t: i32) -> Answer
-    requires { ⌜ isSound (now store) (now table) ≡ true ⌝ }
-    ensures { λ r. ⌜ Gives (clockOut (now (store .entry)) (now (table .entry)) t) r (now (store .exit)) (now (table .exit)) ⌝ }
+    requires { ⌜ areSound (words (now store) (now table)) ≡ true ⌝ }
+    ensures { λ a. ⌜ Gives (clockOut (words (now (store .entry)) (now (table .entry))) t) a (words (now (store .exit)) (now (table .exit))) ⌝ }
 {
-    let stepped = clock_answer(&store[..], t);
-    if !is_accepted(stepped) {
-        return stepped;
+    match clock_verdict(&store[..], t) {
+        Verdict::Failed(why) => Answer::Refused(why),
+        Verdict::Passed => make_step(store, table, t),
     }
-    step(store, table, t);
-    stepped
 }
 
-// A float that was not held sends its first report.
-pub fn add(store: &mut [i32], table: &mut [i16], r: Report) -> Answer
-    requires { ⌜ isSound (now store) (now table) ≡ true ⌝ }
-    ensures { λ a. ⌜ Gives (addOut (now (store .entry)) (now (table .entry)) r) a (now (store .exit)) (now (table .exit)) ⌝ }
+// What a change does after the clock step.
+fn apply(store: &mut [i32], table: &mut [i16], c: Change)
+    requires { ⌜ CanApply (words (now store) (now table)) c ⌝ }
+    ensures { λ u. ⌜ words (now (store .exit)) (now (table .exit)) ≡ changed c (words (now (store .entry)) (now (table .entry))) ⌝ }
 {
-    let added = add_answer(&store[..], r);
-    if !is_accepted(added) {
-        return added;
+    match c {
+        Change::Add(r) => words::place(store, table, r),
+        Change::Report(r) => words::replace(store, table, r),
+        Change::Drop(id, _) => words::take_out(store, table, id),
     }
-    step(store, table, r.t);
-    place(store, table, r);
-    added
 }
 
-// A held float sends a new report.
-pub fn report(store: &mut [i32], table: &mut [i16], r: Report) -> Answer
-    requires { ⌜ isSound (now store) (now table) ≡ true ⌝ }
-    ensures { λ a. ⌜ Gives (reportOut (now (store .entry)) (now (table .entry)) r) a (now (store .exit)) (now (table .exit)) ⌝ }
+// A change that passed its checks: the clock step, then what it does.
+fn make_change(store: &mut [i32], table: &mut [i16], c: Change) -> Answer
+    requires { ⌜ CanMake (words (now store) (now table)) c ⌝ }
+    ensures { λ a. ⌜ Done (changed c (stepped (timeOf c) (words (now (store .entry)) (now (table .entry))))) a (words (now (store .exit)) (now (table .exit))) ⌝ }
 {
-    let reported = report_answer(&store[..], r);
-    if !is_accepted(reported) {
-        return reported;
-    }
-    step(store, table, r.t);
-    take_out(store, table, r.id);
-    place(store, table, r);
-    reported
+    words::step(store, table, c.time());
+    apply(store, table, c);
+    accepted(store)
 }
 
-// A held float is taken out at time t.
-pub fn drop(store: &mut [i32], table: &mut [i16], id: i32, t: i32) -> Answer
-    requires { ⌜ isSound (now store) (now table) ≡ true ⌝ }
-    ensures { λ r. ⌜ Gives (dropOut (now (store .entry)) (now (table .entry)) id t) r (now (store .exit)) (now (table .exit)) ⌝ }
+// A float is added, reports again or is dropped.
+pub fn change(store: &mut [i32], table: &mut [i16], c: Change) -> Answer
+    requires { ⌜ areSound (words (now store) (now table)) ≡ true ⌝ }
+    ensures { λ a. ⌜ Gives (changeOut (words (now (store .entry)) (now (table .entry))) c) a (words (now (store .exit)) (now (table .exit))) ⌝ }
 {
-    let dropped = drop_answer(&store[..], id, t);
-    if !is_accepted(dropped) {
-        return dropped;
+    match change_verdict(&store[..], c) {
+        Verdict::Failed(why) => Answer::Refused(why),
+        Verdict::Passed => make_change(store, table, c),
     }
-    step(store, table, t);
-    take_out(store, table, id);
-    dropped
 }
 
-// The floats predicted inside a rectangle at the asked time, by a method's choice of cells. The ids are written in front of the list.
-pub fn ask(
-    store: &[i32],
-    table: &[i16],
-    list: &mut [u16],
-    method: i32,
-    asked: i32,
-    q: Rect,
-) -> Answer
-    requires { ⌜ isSound (now store) (now table) ≡ true ⌝ }
-    ensures { λ r. ⌜ GivesList (askOut (now (store .entry)) (now (table .entry)) method asked q (now (list .entry))) r (now (list .exit)) ⌝ }
+// The floats that a query wants, by a method's choice of cells. The ids are written in front of the list.
+pub fn ask(store: &[i32], table: &[i16], list: &mut [u16], ask: Ask) -> Answer
+    requires { ⌜ areSound (words (now store) (now table)) ≡ true ⌝ }
+    ensures { λ a. ⌜ GivesList (askOut (words (now (store .entry)) (now (table .entry))) ask (now (list .entry))) a (now (list .exit)) ⌝ }
 {
-    let why = ask_refusal(store, method, asked, q);
-    if !is_accepted(why) {
-        return why;
+    match ask_verdict(store, ask) {
+        Verdict::Failed(why) => Answer::Refused(why),
+        Verdict::Passed => asking::ask_sound(store, table, list, ask),
     }
-    ask_sound(store, table, list, method, asked, q)
+}
+
+// Any call after open. Only an ask touches the list.
+pub fn call(store: &mut [i32], table: &mut [i16], list: &mut [u16], call: Call) -> Answer
+    requires { ⌜ areSound (words (now store) (now table)) ≡ true ⌝ }
+    ensures { λ a. ⌜ GivesCall (callOut (words (now (store .entry)) (now (table .entry))) call (now (list .entry))) a (words (now (store .exit)) (now (table .exit))) (now (list .exit)) ⌝ }
+{
+    match call {
+        Call::Clock(t) => clock(store, table, t),
+        Call::Change(c) => change(store, table, c),
+        Call::Ask(a) => ask(&store[..], &table[..], list, a),
+    }
 }

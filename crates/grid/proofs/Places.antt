@@ -55,12 +55,21 @@ high-passes i x (inr h) = go (eqb i 31)
 
 -- ---- both ways
 
+-- a column that starts at a position or below is not past that position's column
+pub starts-by-column : (i : ℕ) → i < side → (x : ℤ) → notBelow (cellSpan i .low) x ≡ true → i ≤ columnOf x
+starts-by-column i on x h = omega (arith, column-is x, low-passed i x h)
+
+-- and one that ends at a position or above is not before that position's column
+pub ends-from-column : (i : ℕ) (x : ℤ) → notAbove (cellSpan i .high) x ≡ true → columnOf x ≤ i
+ends-from-column i x h =
+    dite (ℕ-discrete i 31) (λ last. omega (arith, column-is x)) (λ inner. omega (arith, column-is x, high-passed i x h inner))
+
 in-own-span : (i : ℕ) → i < side → (x : ℤ) → inSpan (cellSpan i) x ≡ true → columnOf x ≡ i
 unfolding inSpan
 in-own-span i on x h =
-    let l = low-passed i x (and-left _ (notAbove (cellSpan i .high) x) h) in
-    let r = high-passed i x (and-right (notBelow (cellSpan i .low) x) _ h) in
-    dite (ℕ-discrete i 31) (λ last. omega (arith, column-is x)) (λ inner. omega (arith, column-is x, r inner))
+    let l = starts-by-column i on x (and-left _ (notAbove (cellSpan i .high) x) h) in
+    let r = ends-from-column i x (and-right (notBelow (cellSpan i .low) x) _ h) in
+    omega arith
 
 own-span-holds : (x : ℤ) → inSpan (cellSpan (columnOf x)) x ≡ true
 unfolding inSpan

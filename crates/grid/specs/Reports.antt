@@ -8,6 +8,7 @@ use Rattle.grid.specs.Units.{lastPosition, speedLimit, lastTime, lastId}
 use Rattle.grid.specs.Places.{positionAfter, cellOf}
 use Rattle.grid.specs.declared.Cell.{Cell}
 use Rattle.grid.specs.declared.Rect.{Rect}
+use Rattle.grid.specs.declared.Query.{Query}
 use Rattle.grid.specs.declared.Report.{Report}
 
 -- ---- ranges
@@ -42,12 +43,12 @@ yAt r s = positionAfter (r .y) (r .vy) (s -ℤ r .t)
 abbrev pub cellAtTime : Report → ℤ → Cell
 cellAtTime r s = cellOf (xAt r s) (yAt r s)
 
--- ---- rectangles
+-- ---- queries
 
 -- whether a position is in a rectangle, edges included
 unfoldable pub inRect : Rect → ℤ → ℤ → Bool
 inRect q x y = between (q .x .low) (q .x .high) x && between (q .y .low) (q .y .high) y
 
--- whether an ask for a rectangle and a time lists a float: its position at the asked time is in the rectangle
-unfoldable pub isListed : Rect → ℤ → Report → Bool
-isListed q asked r = inRect q (xAt r asked) (yAt r asked)
+-- whether a timeslice query lists a float: its position at the query's time is in the query's rectangle
+unfoldable pub isListed : Query → Report → Bool
+isListed query r = inRect (query .rect) (xAt r (query .time)) (yAt r (query .time))

@@ -2,6 +2,7 @@
 -- Assumes nothing.
 use Prim.Native.Nat.{_≤_, _^_}
 use lib.IntN.{ℤ, natAbs}
+use Rattle.grid.specs.declared.Query.{Query}
 use Rattle.grid.specs.declared.Report.{Report}
 
 -- along one axis: the position, the speed, the report's time and the time asked for
@@ -14,3 +15,7 @@ pub record SmallAxis (x v t s : ℤ) : Type 0 where
 pub record SmallReport (r : Report) (s : ℤ) : Type 0 where
   pub along-x : SmallAxis (r .x) (r .vx) (r .t) s
   pub along-y : SmallAxis (r .y) (r .vy) (r .t) s
+
+-- a query whose time is small
+pub record SmallQuery (query : Query) : Type 0 where
+  pub small-time : natAbs (query .time) ≤ 2 ^ 30

@@ -120,7 +120,8 @@ pub fn number_in(numbers: &[u16; 1024], c: Cell) -> usize
     wide(numbers[c.row * SIDE + c.column])
 }
 
-fn wide_signed(z: i32) -> i64
+// A number of 32 bits in 64.
+pub fn wide_signed(z: i32) -> i64
     ensures { λ r. ⌜ r ≡ z ⌝ }
 {
     z as i64
@@ -139,6 +140,15 @@ impl Rect {
         ensures { λ r. ⌜ r ≡ inRect self x y ⌝ }
     {
         self.x.holds(x) && self.y.holds(y)
+    }
+}
+
+impl Query {
+    // Its time as a 64-bit number, in which no product of a speed and a time overflows.
+    pub fn wide_time(self) -> i64
+        ensures { λ r. ⌜ r ≡ self .time ⌝ }
+    {
+        wide_signed(self.time)
     }
 }
 
@@ -173,11 +183,12 @@ impl Report {
         cell_of(self.x_at(s), self.y_at(s))
     }
 
-    // Whether an ask for a rectangle and a time lists the float.
-    pub fn is_listed(self, q: Rect, asked: i64) -> bool
-        requires { ⌜ SmallReport self asked ⌝ }
-        ensures { λ r. ⌜ r ≡ isListed q asked self ⌝ }
+    // Whether a query lists the float.
+    pub fn is_listed(self, query: Query) -> bool
+        requires { ⌜ SmallReport self (query .time) ⌝ }
+        ensures { λ r. ⌜ r ≡ isListed query self ⌝ }
     {
-        q.holds(self.x_at(asked), self.y_at(asked))
+        let s = query.wide_time();
+        query.rect.holds(self.x_at(s), self.y_at(s))
     }
 }

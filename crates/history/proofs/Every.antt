@@ -1,39 +1,48 @@
 -- After an accepted open, at every point of every list of calls, the index's words match the ledger; so every answer in the list is the ledger's,
 -- once each ask answers as the ledger does.
 -- Assumes nothing.
-use mathlib.Core.Path.{_≡_, refl, ap₂, _∙_}
-use mathlib.Core.Bool.{Bool, true, false, cond, _&&_}
+use mathlib.Core.Path.{_≡_, refl, sym, ap, ap₂, _∙_}
+use mathlib.Core.Bool.{Bool, true, false, cond}
 use mathlib.Core.List.{List, [], _∷_}
 use Prim.Native.Nat.{ℕ, zero, suc, _<_}
 use native.Mathlib.Omega.{arith}
-use lib.Dec.{eqb}
 use lib.IntN.{ℤ}
 use lib.ListN.{length}
-use borrow.Author.Tests.{eqb-true, not-false}
-use Rattle.ints.proofs.Truth.{and-right}
+use borrow.Author.Tests.{not-false}
 use Rattle.grid.specs.Units.{cells}
 use Rattle.grid.specs.Reports.{isTime}
-use Rattle.grid.specs.declared.Rect.{Rect}
 use Rattle.rows.specs.Row.{emptyRow, boundsOf}
 use Rattle.rows.specs.Phases.{slotOf, slots}
 use Rattle.rows.specs.Table.{tableWords, rowAt, withSlotEmpty}
 use Rattle.rows.proofs.PhaseLaws.{slot-on}
 use Rattle.rows.proofs.TableLaws.{length-slot-empty, row-emptied, row-kept}
-use Rattle.records.specs.Records.{storeWords}
+use Rattle.records.specs.Words.{Words, timeIn, recordsIn}
+use Rattle.words.specs.Words as Index
+use Rattle.words.proofs.PlaceLaws.{opened-time, opened-records, opened-can-change}
 use Rattle.ledger.specs.Answers.{isAccepted}
-use Rattle.ledger.specs.Refusals.{check, firstToFail, badTime}
-use Rattle.ledger.specs.Machine.{Ledger, opened, rowsIn, speedsPlaced}
+use Rattle.ints.proofs.Parts.{true-false}
+use Rattle.ledger.specs.Refusals.{Check, check, firstToFail, badTime, clockChecks, timeOf}
+use Rattle.ledger.specs.Machine.{Ledger, opened, stepped, changed, rowsIn, speedsPlaced}
 use Rattle.ledger.specs.Calls as L
+use Rattle.ledger.specs.Calls.{answerBy}
 use Rattle.ledger.specs.declared.Answer.the-variants.{Accepted}
+use Rattle.ledger.specs.declared.Ask.{Ask}
+use Rattle.ledger.specs.declared.Call.{Call}
+use Rattle.ledger.specs.declared.Call.the-variants as Call
+use Rattle.ledger.specs.declared.Change.{Change}
 use Rattle.ledger.specs.declared.Refusal.the-variants.{WrongLength, BadTime}
-use Rattle.engine.specs.Index.{wrongLength, settled, openOut}
-use Rattle.history.specs.Index.{Words, LentCall, clock, add, report, drop, ask, fed, fedAll, replyTo, next, replies, after, openedWords}
-use Rattle.history.specs.Claims.{EveryHistoryIsTheLedgers}
-use Rattle.history.proofs.Relation.{recordsOfHeld, Good, Matches}
+use Rattle.ledger.specs.declared.Verdict.{Verdict}
+use Rattle.ledger.specs.declared.Verdict.the-variants.{Passed, Failed}
+use Rattle.ledger.proofs.VerdictLaws.{first-passed, others-passed}
+use Rattle.engine.specs.Index.{wrongLength, lentChecks, openChecks, checksOfChange, settled, openOut, clockOut, changeOut, leavingList, callOut}
+use Rattle.engine.specs.Index as Engine
+use Rattle.engine.proofs.CheckLaws.{right-lengths, sound-lent}
+use Rattle.history.specs.Index.{LentCall, fed, fedAll, replyOf, replyTo, next, replies, after, openedWords}
+use Rattle.history.specs.Claims.{EveryHistoryIsTheLedgers, asking}
+use Rattle.history.proofs.Relation.{recordsOfHeld, TableMatches, Left}
 use Rattle.history.proofs.GoodKept.{opened-good}
-use Rattle.history.proofs.PlacedRows.{TableMatches}
-use Rattle.history.proofs.Sound.{matches-of}
-use Rattle.history.proofs.Steps.{Left, passed, others, clock-reply, clock-agrees, add-reply, add-agrees, report-reply, report-agrees, drop-reply, drop-agrees}
+use Rattle.history.proofs.Sound.{matching-sound, count-is}
+use Rattle.history.proofs.Steps.{clock-same, clock-left, checks, change-same, change-left}
 
 -- ---- open
 
@@ -77,75 +86,134 @@ module _ (t : List ℤ) (sized : length t ≡ tableWords) where
         rest-empty = λ slot n h k far. all-empty slot n h k;
       }
 
-module _ (s t : List ℤ) (time : ℤ) (accepted : isAccepted (openOut s t time .answer) ≡ true) where
-  open-answer : isAccepted (firstToFail (check (wrongLength s t) WrongLength ∷ check (badTime time) BadTime ∷ []) (Accepted 0)) ≡ true
-  unfolding openOut settled
-  open-answer = accepted
+-- an open that was accepted passed its checks
+settled-passed : (v : Verdict) (w w′ : Words) → isAccepted (settled v w w′ .answer) ≡ true → v ≡ Passed
+settled-passed Passed w w′ h = refl
+settled-passed (Failed r) w w′ h = absurd (true-false (sym h))
 
-  opened-sized : length t ≡ tableWords
-  opened-sized =
-      let right = passed (wrongLength s t) WrongLength (check (badTime time) BadTime ∷ []) (Accepted 0) open-answer in
-      let both = not-false (eqb (length s) storeWords && eqb (length t) tableWords) right in
-      eqb-true (length t) tableWords (and-right (eqb (length s) storeWords) _ both)
+module _ (w : Words) (time : ℤ) (accepted : isAccepted (openOut w time .answer) ≡ true) where
+  passed : firstToFail (openChecks w time) ≡ Passed
+  unfolding openOut
+  passed = settled-passed (firstToFail (openChecks w time)) w (Index.opened time w) accepted
 
-  opened-time : isTime time ≡ true
-  opened-time =
-      not-false (isTime time)
-      (passed (badTime time) BadTime [] (Accepted 0)
-      (others (wrongLength s t) WrongLength (check (badTime time) BadTime ∷ []) (Accepted 0) open-answer))
+  pub opened-left : Left (opened time) (openedWords w time)
+  unfolding openOut Index.opened recordsOfHeld
+  opened-left =
+      let long = right-lengths w (first-passed (wrongLength w) WrongLength (check (badTime time) BadTime ∷ []) passed) in
+      let rest = others-passed (wrongLength w) WrongLength (check (badTime time) BadTime ∷ []) passed in
+      rw (openedWords, passed)
+      (record {
+        good = opened-good time (not-false (isTime time) (first-passed (badTime time) BadTime [] rest));
+        matches = record {
+          can-change = opened-can-change time w long;
+          time-is = opened-time time w;
+          records-are = opened-records time w;
+          table = opened-table (w .table) (long .table-long) time;
+        };
+      })
 
-  pub opened-matches : Matches (opened time) (openedWords s t time)
-  unfolding openOut settled recordsOfHeld
-  opened-matches = rw open-answer (matches-of (opened time) _ refl (opened-table t opened-sized time))
+-- ---- one call
 
-  pub opened-left : Left (opened time) (openedWords s t time)
-  opened-left = record { good = opened-good time opened-time; matches = opened-matches }
+-- by the verdict: refused, both stay; else both change, and as many floats are held in both
+module _ (l l′ : Ledger) (w w′ : Words) where
+  left-by : Left l w → (v : Verdict) → (v ≡ Passed → Left l′ w′) → Left (cond (isAccepted (answerBy v (Accepted (length (l′ .held))))) l′ l) (settled v w w′ .words)
+  left-by left Passed changed = changed refl
+  left-by left (Failed r) changed = left
 
--- ---- every point of every list
+  reply-by : (list : List ℕ) (v : Verdict) → (v ≡ Passed → Left l′ w′)
+      → replyOf (leavingList (settled v w w′) list)
+      ≡ record { answer = answerBy v (Accepted (length (l′ .held))); ids = cond (isAccepted (answerBy v (Accepted (length (l′ .held))))) [] [] }
+  reply-by list Passed changed =
+      let left = changed refl in
+      ap (λ (n : ℕ). replyOf (leavingList (record { answer = Accepted n; words = w′ }) list)) (count-is l′ w′ (left .good) (left .matches))
+  reply-by list (Failed r) changed = refl
 
--- an ask leaves both as they are
-ask-leaves : (l : Ledger) (w : Words) (method asked : ℤ) (q : Rect) (list : List ℕ) → Left l w → Left (L.next l (L.ask method asked q (length list))) (next w (ask method asked q list))
-unfolding next L.next L.changedBy
-ask-leaves l w method asked q list left = go (isAccepted (L.answerTo l (L.ask method asked q (length list))))
+module _ (l : Ledger) (w : Words) (left : Left l w) (list : List ℕ) where
+  -- the checks of the lent words are passed
+  sound-here : (more : List Check) → firstToFail (lentChecks w more) ≡ firstToFail more
+  sound-here more = sym (sound-lent w (matching-sound l w (left .good) (left .matches)) more)
+
+  module _ (t : ℤ) where
+    abbrev clocking : LentCall
+    clocking = record { call = Call.Clock t; list = list }
+
+    clock-verdict : firstToFail (Engine.checksOf w (Call.Clock t) 0) ≡ firstToFail (clockChecks (l .now) t)
+    clock-verdict = sound-here (clockChecks (timeIn w) t) ∙ ap firstToFail (clock-same l w left t)
+
+    clock-leaves : Left (L.next l (fed clocking)) (next w clocking)
+    unfolding L.next L.answerTo L.changedBy callOut clockOut
+    clock-leaves = rw (next, clock-verdict) (left-by l (stepped t l) w (Index.stepped t w) left (firstToFail (clockChecks (l .now) t)) (clock-left l w left t))
+
+    clock-reply : replyTo w clocking ≡ L.replyTo l (fed clocking)
+    unfolding L.replyTo L.answerTo L.changedBy L.idsOf callOut clockOut
+    clock-reply = rw clock-verdict (reply-by l (stepped t l) w (Index.stepped t w) list (firstToFail (clockChecks (l .now) t)) (clock-left l w left t))
+
+  module _ (c : Change) where
+    abbrev changing : LentCall
+    changing = record { call = Call.Change c; list = list }
+
+    change-verdict : firstToFail (Engine.checksOf w (Call.Change c) 0) ≡ firstToFail (checks l w left c)
+    change-verdict = sound-here (checksOfChange (timeIn w) (recordsIn w) c) ∙ ap firstToFail (change-same l w left c)
+
+    abbrev ledgerThen : Ledger
+    ledgerThen = changed c (stepped (timeOf c) l)
+
+    abbrev wordsThen : Words
+    wordsThen = Engine.changed c (Index.stepped (timeOf c) w)
+
+    change-leaves : Left (L.next l (fed changing)) (next w changing)
+    unfolding L.next L.answerTo L.changedBy callOut changeOut
+    change-leaves = rw (next, change-verdict) (left-by l ledgerThen w wordsThen left (firstToFail (checks l w left c)) (change-left l w left c))
+
+    change-reply : replyTo w changing ≡ L.replyTo l (fed changing)
+    unfolding L.replyTo L.answerTo L.changedBy L.idsOf callOut changeOut
+    change-reply = rw change-verdict (reply-by l ledgerThen w wordsThen list (firstToFail (checks l w left c)) (change-left l w left c))
+
+  -- an ask leaves both as they are
+  ask-leaves : (ask : Ask) → Left (L.next l (fed (asking ask list))) (next w (asking ask list))
+  unfolding L.next L.changedBy callOut
+  ask-leaves ask = go (isAccepted (L.answerTo l (fed (asking ask list))))
+    where
+      go : (b : Bool) → Left (cond b l l) w
+      go true = left
+      go false = left
+
+pub call-leaves : (l : Ledger) (w : Words) (lent : LentCall) → Left l w → Left (L.next l (fed lent)) (next w lent)
+call-leaves l w lent left = go (lent .call)
   where
-    go : (b : Bool) → Left (cond b l l) w
-    go true = left
-    go false = left
-
-pub call-leaves : (l : Ledger) (w : Words) (call : LentCall) → Left l w → Left (L.next l (fed call)) (next w call)
-call-leaves l w (clock time) left = clock-agrees l w (left .good) (left .matches) time
-call-leaves l w (add r) left = add-agrees l w (left .good) (left .matches) r
-call-leaves l w (report r) left = report-agrees l w (left .good) (left .matches) r
-call-leaves l w (drop id time) left = drop-agrees l w (left .good) (left .matches) id time
-call-leaves l w (ask method asked q list) left = ask-leaves l w method asked q list left
+    go : (call : Call) → Left (L.next l (fed (record { call = call; list = lent .list }))) (next w (record { call = call; list = lent .list }))
+    go (Call.Clock t) = clock-leaves l w left (lent .list) t
+    go (Call.Change c) = change-leaves l w left (lent .list) c
+    go (Call.Ask ask) = ask-leaves l w left (lent .list) ask
 
 pub calls-leave : (calls : List LentCall) (l : Ledger) (w : Words) → Left l w → Left (L.after l (fedAll calls)) (after w calls)
-unfolding after L.after fedAll
+unfolding after L.after
 calls-leave [] l w left = left
-calls-leave (call ∷ calls) l w left =
-    calls-leave calls (L.next l (fed call)) (next w call) (call-leaves l w call left)
+calls-leave (lent ∷ more) l w left =
+    calls-leave more (L.next l (fed lent)) (next w lent) (call-leaves l w lent left)
 
 -- at every point the ledger is good and the words match it
-pub every-point-matches : (s t : List ℤ) (time : ℤ) → isAccepted (openOut s t time .answer) ≡ true → (calls : List LentCall) → Left (L.after (opened time) (fedAll calls)) (after (openedWords s t time) calls)
-every-point-matches s t time accepted calls =
-    calls-leave calls (opened time) (openedWords s t time) (opened-left s t time accepted)
+pub every-point-matches : (w : Words) (time : ℤ) → isAccepted (openOut w time .answer) ≡ true → (calls : List LentCall) → Left (L.after (opened time) (fedAll calls)) (after (openedWords w time) calls)
+every-point-matches w time accepted calls =
+    calls-leave calls (opened time) (openedWords w time) (opened-left w time accepted)
 
 -- ---- every answer of every list, once each ask answers as the ledger does
 
-module _ (ask-agrees : (l : Ledger) (w : Words) → Good l → Matches l w → (method asked : ℤ) (q : Rect) (list : List ℕ) → replyTo w (ask method asked q list) ≡ L.replyTo l (L.ask method asked q (length list))) where
-  pub call-reply : (l : Ledger) (w : Words) (call : LentCall) → Left l w → replyTo w call ≡ L.replyTo l (fed call)
-  call-reply l w (clock time) left = clock-reply l w (left .good) (left .matches) time
-  call-reply l w (add r) left = add-reply l w (left .good) (left .matches) r
-  call-reply l w (report r) left = report-reply l w (left .good) (left .matches) r
-  call-reply l w (drop id time) left = drop-reply l w (left .good) (left .matches) id time
-  call-reply l w (ask method asked q list) left = ask-agrees l w (left .good) (left .matches) method asked q list
+module _ (ask-agrees : (l : Ledger) (w : Words) → Left l w → (ask : Ask) (list : List ℕ) → replyTo w (asking ask list) ≡ L.replyTo l (fed (asking ask list))) where
+  pub call-reply : (l : Ledger) (w : Words) (lent : LentCall) → Left l w → replyTo w lent ≡ L.replyTo l (fed lent)
+  call-reply l w lent left = go (lent .call)
+    where
+      go : (call : Call) → replyTo w (record { call = call; list = lent .list }) ≡ L.replyTo l (fed (record { call = call; list = lent .list }))
+      go (Call.Clock t) = clock-reply l w left (lent .list) t
+      go (Call.Change c) = change-reply l w left (lent .list) c
+      go (Call.Ask ask) = ask-agrees l w left ask (lent .list)
 
   calls-reply : (calls : List LentCall) (l : Ledger) (w : Words) → Left l w → replies w calls ≡ L.replies l (fedAll calls)
-  unfolding replies L.replies fedAll
+  unfolding replies L.replies
   calls-reply [] l w left = refl
-  calls-reply (call ∷ calls) l w left =
-      ap₂ _∷_ (call-reply l w call left) (calls-reply calls (L.next l (fed call)) (next w call) (call-leaves l w call left))
+  calls-reply (lent ∷ more) l w left =
+      ap₂ _∷_ (call-reply l w lent left) (calls-reply more (L.next l (fed lent)) (next w lent) (call-leaves l w lent left))
 
   pub every-history-with-asks : EveryHistoryIsTheLedgers
-  every-history-with-asks s t time accepted calls =
-      calls-reply calls (opened time) (openedWords s t time) (opened-left s t time accepted)
+  every-history-with-asks w time accepted calls =
+      calls-reply calls (opened time) (openedWords w time) (opened-left w time accepted)

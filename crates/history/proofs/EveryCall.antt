@@ -1,8 +1,8 @@
 -- The claims of specs/EveryCall.antt, proved.
 -- Assumes nothing.
 use mathlib.Core.Path.{_≡_, refl, sym, ap, _∙_}
-use mathlib.Core.Bool.{Bool, true, false, not, cond}
-use mathlib.Core.List.{List, _++_}
+use mathlib.Core.Bool.{Bool, true, false, not}
+use mathlib.Core.List.{List, [], _∷_, _++_}
 use Prim.Native.Nat.{ℕ, zero, suc, _+_}
 use lib.Dec.{ltb}
 use lib.IntN.{ℤ, pos, negsuc}
@@ -11,164 +11,201 @@ use native.Mathlib.Omega.{arith}
 use borrow.Author.Tests.{not-false}
 use Rattle.ints.specs.Whole.{up}
 use Rattle.ints.proofs.Parts.{true-false}
-use Rattle.grid.specs.Units.{cells}
-use Rattle.grid.specs.declared.Rect.{Rect}
-use Rattle.rows.specs.Phases.{phaseOf, sinceReference, livePhases, slotOf}
+use Rattle.rows.specs.Phases.{phaseOf, livePhases, slotOf}
 use Rattle.methods.specs.Methods.{choice}
+use Rattle.methods.specs.Aims.{aimIn}
 use Rattle.methods.specs.Chosen.{rowsOfSlot}
-use Rattle.records.specs.Records.{nowOf, recordsOf}
-use Rattle.records.specs.Soundness.{isSound}
+use Rattle.records.specs.Words.{Words, timeIn, recordsIn, areSound}
 use Rattle.records.proofs.SoundLaws.{sound-parts}
 use Rattle.ledger.specs.Answers.{Counts, valueOf, countsOf, isAccepted}
-use Rattle.ledger.specs.Refusals.{unless, firstToFail, inNumberOrder, badAskTime, badAsk}
+use Rattle.ledger.specs.Refusals.{check, unless, firstToFail, inNumberOrder, badAskTime, badAsk, changeChecks, askChecks}
 use Rattle.ledger.specs.declared.Answer.{Answer}
-use Rattle.ledger.specs.declared.Answer.the-variants.{Listed}
-use Rattle.ledger.specs.declared.Refusal.the-variants.{WrongLength, Unsound, BadTime, BadNumber, ListTooShort}
+use Rattle.ledger.specs.declared.Answer.the-variants.{Accepted, Listed, Refused}
+use Rattle.ledger.specs.declared.Ask.{Ask}
+use Rattle.ledger.specs.declared.Call.{Call}
+use Rattle.ledger.specs.declared.Call.the-variants as Call
+use Rattle.ledger.specs.declared.Change.{Change}
+use Rattle.ledger.specs.declared.Change.the-variants as Change
+use Rattle.ledger.specs.declared.Refusal.the-variants.{Unsound, WrongLength, BadTime, BadNumber, ListTooShort}
+use Rattle.ledger.specs.declared.Verdict.{Verdict}
+use Rattle.ledger.specs.declared.Verdict.the-variants.{Passed, Failed}
 use Rattle.ledger.proofs.SumLaws.{summed-same, summed-none}
 use Rattle.ledger.proofs.Claims.{refusals-are-plain}
-use Rattle.engine.specs.Index.{wrongLength, unsound, choiceOf, idsNeeded, idsFound, cellsCounted, usefulCounted, roundsCounted, askChecks, askAnswer, askOut}
-use Rattle.engine.specs.Claims.{idsInside}
-use Rattle.engine.proofs.AskLaws.{fit-ask}
-use Rattle.engine.proofs.Counts.{cells-counted-are}
-use Rattle.engine.proofs.ListIsExact.{list-is-exact}
-use Rattle.engine.proofs.CheckLaws.{sound-passed}
-use Rattle.history.specs.Index.{replyTo}
+use Rattle.ledger.proofs.VerdictLaws.{first-passed, others-passed}
+use Rattle.asking.specs.Asking.{choiceOf, idsNeeded, idsFound, roundsCounted, AskOutcome, askSettled}
+use Rattle.asking.specs.Counted.{roomChecks}
+use Rattle.asking.specs.Claims.{idsInside}
+use Rattle.asking.proofs.AskLaws.{fit-ask}
+use Rattle.asking.proofs.CountLaws.{cells-counted-are}
+use Rattle.asking.proofs.ListIsExact.{list-is-exact}
+use Rattle.engine.specs.Index.{wrongLength, unsound, lentChecks, checksOf, askOut, callOut}
+use Rattle.engine.proofs.CheckLaws.{sound-lent, room-left}
+use Rattle.history.specs.Index.{idsWritten}
 use Rattle.history.specs.EveryCall.{EveryCallChecksInOrder, CountsOfAsk, ListIsWritten, heldIn, CountsAreExact, ChoiceRoundsAreMethodTwos, RoundsAreMethodTwos, RefusedAskIsEmpty}
 use Rattle.history.proofs.SoundUseful.{useful-counted}
-use Rattle.history.proofs.Asks.{answerOf}
 
 -- ---- the order of the checks
 
+change-order : (w : Words) (c : Change) (now : ℤ) (isHeld : Bool) (held : ℕ) → inNumberOrder (lentChecks w (changeChecks now c isHeld held)) ≡ true
+unfolding inNumberOrder
+change-order w (Change.Add r) now isHeld held = refl
+change-order w (Change.Report r) now isHeld held = refl
+change-order w (Change.Drop id t) now isHeld held = refl
+
+call-order : (w : Words) (call : Call) (room : ℕ) → inNumberOrder (checksOf w call room) ≡ true
+unfolding inNumberOrder
+call-order w (Call.Clock t) room = refl
+call-order w (Call.Change c) room = change-order w c (timeIn w) _ _
+call-order w (Call.Ask ask) room = refl
+
 pub every-call-checks-in-order : EveryCallChecksInOrder
 unfolding inNumberOrder
-every-call-checks-in-order s t = record {
-  open-order = λ time. refl;
-  clock-order = λ time. refl;
-  add-order = λ r. refl;
-  report-order = λ r. refl;
-  drop-order = λ id time. refl;
-  ask-order = λ method asked q room. refl;
-}
+every-call-checks-in-order w = record { open-order = λ time. refl; call-order = call-order w }
 
--- ---- what an accepted ask passed, and its answer
+-- ---- an ask by its verdict
 
-record Passed (late bad odd : Bool) (a b : Answer) : Type 0 where
-  is-sound : odd ≡ false
-  good-time : late ≡ false
-  good-numbers : bad ≡ false
-  answer-is : a ≡ b
+settled-passed : (v : Verdict) (w : Words) (ask : Ask) (list : List ℕ) → isAccepted (askSettled v w ask list .answer) ≡ true → v ≡ Passed
+settled-passed Passed w ask list h = refl
+settled-passed (Failed r) w ask list h = absurd (true-false (sym h))
 
-passed-all :
-    (long odd late bad short : Bool) (n c u r : ℕ)
-    → let a = unless long WrongLength (unless odd Unsound (unless late BadTime (unless bad BadNumber (unless short (ListTooShort n) (Listed n c u r))))) in
-    isAccepted a ≡ true → Passed late bad odd a (Listed n c u r)
-passed-all true odd late bad short n c u r h = absurd (true-false (sym h))
-passed-all false true late bad short n c u r h = absurd (true-false (sym h))
-passed-all false false true bad short n c u r h = absurd (true-false (sym h))
-passed-all false false false true short n c u r h = absurd (true-false (sym h))
-passed-all false false false false true n c u r h = absurd (true-false (sym h))
-passed-all false false false false false n c u r h =
-    record { is-sound = refl; good-time = refl; good-numbers = refl; answer-is = refl }
+settled-stays : (v : Verdict) (w : Words) (ask : Ask) (list : List ℕ) → isAccepted (askSettled v w ask list .answer) ≡ false → askSettled v w ask list .list ≡ list
+settled-stays Passed w ask list h = absurd (true-false h)
+settled-stays (Failed r) w ask list h = refl
 
-with-room : (late bad : Bool) (room n c u r : ℕ) → late ≡ false → bad ≡ false → isAccepted (answerOf late bad room n c u r) ≡ not (ltb room n)
-with-room true bad room n c u r e f = absurd (true-false e)
-with-room false true room n c u r e f = absurd (true-false f)
-with-room false false room n c u r e f = go (ltb room n)
+room-accepts : (w : Words) (ask : Ask) (list : List ℕ) (room needed : ℕ) → isAccepted (askSettled (firstToFail (roomChecks room needed)) w ask list .answer) ≡ not (ltb room needed)
+unfolding firstToFail
+room-accepts w ask list room needed = go (ltb room needed)
   where
-    go : (b : Bool) → isAccepted (unless b (ListTooShort n) (Listed n c u r)) ≡ not b
+    go : (b : Bool) → isAccepted (askSettled (unless b (ListTooShort needed) Passed) w ask list .answer) ≡ not b
     go true = refl
     go false = refl
 
-module _ (s t : List ℤ) (method asked : ℤ) (q : Rect) (list : List ℕ) where
-  abbrev m : ℕ
-  m = up method
+module _ (w : Words) (ask : Ask) (list : List ℕ) where
+  abbrev room : ℕ
+  room = length list
 
-  abbrev out : Answer
-  out = askOut s t method asked q list .answer
+  abbrev late : Bool
+  late = badAskTime (timeIn w) (ask .query)
 
-  module _ (h : isAccepted out ≡ true) where
-    passed :
-        Passed (badAskTime (nowOf s) asked) (badAsk method q) (unsound s t) out
-        (Listed (idsNeeded s t m asked q) (cellsCounted s t m asked q) (usefulCounted s t m asked q) (roundsCounted s t m asked q))
-    unfolding askOut askAnswer firstToFail
-    passed = passed-all (wrongLength s t) (unsound s t) (badAskTime (nowOf s) asked) (badAsk method q) (ltb (length list) (idsNeeded s t m asked q)) _ _ _ _ h
+  abbrev bad : Bool
+  bad = badAsk ask
 
-    sound-here : isSound s t ≡ true
-    sound-here = not-false (isSound s t) (passed .is-sound)
+  abbrev verdict : Verdict
+  verdict = firstToFail (checksOf w (Call.Ask ask) room)
 
-    exact : (idsFound s t m asked q ≡ idsInside q asked (recordsOf s)) × (idsNeeded s t m asked q ≡ length (idsInside q asked (recordsOf s)))
-    exact = list-is-exact s t sound-here method asked q (passed .good-time) (passed .good-numbers)
-
-    list-written : askOut s t method asked q list .list ≡ idsInside q asked (recordsOf s) ++ drop (length (idsInside q asked (recordsOf s))) list
+  module _ (h : isAccepted (askOut w ask list .answer) ≡ true) where
+    passed : verdict ≡ Passed
     unfolding askOut
-    list-written =
-        ap (λ (b : Bool). cond b (idsFound s t m asked q ++ drop (length (idsFound s t m asked q)) list) list) h
-        ∙ ap (λ (ids : List ℕ). ids ++ drop (length ids) list) (exact .0)
+    passed = settled-passed verdict w ask list h
 
-    counts-exact : CountsOfAsk s t method asked q list (heldIn s) (livePhases (phaseOf (nowOf s)))
+    after-lent : firstToFail (askChecks (timeIn w) ask room (idsNeeded w ask)) ≡ Passed
+    after-lent =
+        let asked = askChecks (timeIn w) ask room (idsNeeded w ask) in
+        others-passed (unsound w) Unsound asked (others-passed (wrongLength w) WrongLength (check (unsound w) Unsound ∷ asked) passed)
+
+    sound-here : areSound w ≡ true
+    sound-here =
+        let asked = askChecks (timeIn w) ask room (idsNeeded w ask) in
+        not-false (areSound w) (first-passed (unsound w) Unsound asked (others-passed (wrongLength w) WrongLength (check (unsound w) Unsound ∷ asked) passed))
+
+    good-time : late ≡ false
+    good-time = first-passed late BadTime (check bad BadNumber ∷ roomChecks room (idsNeeded w ask)) after-lent
+
+    good-numbers : bad ≡ false
+    good-numbers =
+        first-passed bad BadNumber (roomChecks room (idsNeeded w ask))
+        (others-passed late BadTime (check bad BadNumber ∷ roomChecks room (idsNeeded w ask)) after-lent)
+
+    out-is : askOut w ask list ≡ askSettled Passed w ask list
+    unfolding askOut
+    out-is = ap (λ (v : Verdict). askSettled v w ask list) passed
+
+    exact : (idsFound w ask ≡ idsInside (ask .query) (recordsIn w)) × (idsNeeded w ask ≡ length (idsInside (ask .query) (recordsIn w)))
+    exact = list-is-exact w sound-here ask good-time good-numbers
+
+    list-written : askOut w ask list .list ≡ idsInside (ask .query) (recordsIn w) ++ drop (length (idsInside (ask .query) (recordsIn w))) list
+    list-written = rw out-is (ap (λ (ids : List ℕ). ids ++ drop (length ids) list) (exact .0))
+
+    counts-exact : CountsOfAsk w ask list (heldIn w) (livePhases (phaseOf (timeIn w)))
     unfolding roundsCounted
     counts-exact =
-        let parts = sound-parts s t sound-here in
-        let fit = fit-ask (nowOf s) method asked q (passed .good-time) (passed .good-numbers) in
+        let parts = sound-parts (w .store) (w .table) sound-here in
+        let fit = fit-ask (timeIn w) ask good-time good-numbers in
         record {
-          cells-are = ap (λ (a : Answer). countsOf a .cells) (passed .answer-is) ∙ cells-counted-are s t m asked q;
-          useful-are = ap (λ (a : Answer). countsOf a .useful) (passed .answer-is) ∙ useful-counted s t parts m asked q fit;
-          rounds-are = ap (λ (a : Answer). countsOf a .rounds) (passed .answer-is);
+          cells-are = ap (λ (o : AskOutcome). countsOf (o .answer) .cells) out-is ∙ cells-counted-are w ask;
+          useful-are = ap (λ (o : AskOutcome). countsOf (o .answer) .useful) out-is ∙ useful-counted w parts ask fit;
+          rounds-are = ap (λ (o : AskOutcome). countsOf (o .answer) .rounds) out-is;
         }
 
-  -- good numbers over a sound store and table: accepted exactly where the list has room
-  accepted-with-room : isSound s t ≡ true → badAskTime (nowOf s) asked ≡ false → badAsk method q ≡ false → isAccepted out ≡ not (ltb (length list) (length (idsInside q asked (recordsOf s))))
-  unfolding askOut askAnswer firstToFail
-  accepted-with-room sound time numbers =
-      ap isAccepted (sym (sound-passed s t sound (askChecks s t method asked q (length list)) _ _ refl))
-      ∙ with-room (badAskTime (nowOf s) asked) (badAsk method q) (length list) (idsNeeded s t m asked q) _ _ _ time numbers
-      ∙ ap (λ (n : ℕ). not (ltb (length list) n)) (list-is-exact s t sound method asked q time numbers .1)
+    value-exact : valueOf (askOut w ask list .answer) ≡ length (idsInside (ask .query) (recordsIn w))
+    value-exact = rw out-is (exact .1)
 
-  list-stays : isAccepted out ≡ false → askOut s t method asked q list .list ≡ list
+  -- good numbers over sound words: accepted exactly where the list has room
+  accepted-with-room : areSound w ≡ true → late ≡ false → bad ≡ false → isAccepted (askOut w ask list .answer) ≡ not (ltb room (length (idsInside (ask .query) (recordsIn w))))
   unfolding askOut
-  list-stays h = ap (λ (b : Bool). cond b (idsFound s t m asked q ++ drop (length (idsFound s t m asked q)) list) list) h
+  accepted-with-room sound time numbers =
+      ap (λ (v : Verdict). isAccepted (askSettled v w ask list .answer))
+      (sym (room-left (timeIn w) ask room (idsNeeded w ask) time numbers ∙ sound-lent w sound (askChecks (timeIn w) ask room (idsNeeded w ask))))
+      ∙ room-accepts w ask list room (idsNeeded w ask)
+      ∙ ap (λ (n : ℕ). not (ltb room n)) (list-is-exact w sound ask time numbers .1)
+
+  list-stays : isAccepted (askOut w ask list .answer) ≡ false → askOut w ask list .list ≡ list
+  unfolding askOut
+  list-stays h = settled-stays verdict w ask list h
 
 pub list-is-written : ListIsWritten
-list-is-written s t method asked q list = record {
-  accepted-with-room = accepted-with-room s t method asked q list;
-  ids-in-front = list-written s t method asked q list;
-  ids-returned = λ h. ap valueOf (passed s t method asked q list h .answer-is) ∙ exact s t method asked q list h .1;
-  untouched = list-stays s t method asked q list;
+list-is-written w ask list = record {
+  accepted-with-room = accepted-with-room w ask list;
+  ids-in-front = list-written w ask list;
+  ids-returned = value-exact w ask list;
+  untouched = list-stays w ask list;
 }
 
 pub counts-are-exact : CountsAreExact
-counts-are-exact s t method asked q list h = counts-exact s t method asked q list h
+counts-are-exact w ask list h = counts-exact w ask list h
 
 -- ---- rounds
 
 pub choice-rounds-are-method-twos : ChoiceRoundsAreMethodTwos
 unfolding choice
-choice-rounds-are-method-twos zero rows q d other = refl
-choice-rounds-are-method-twos (suc zero) rows q d other = refl
-choice-rounds-are-method-twos (suc (suc zero)) rows q d other = absurd (other refl)
-choice-rounds-are-method-twos (suc (suc (suc n))) rows q d other = refl
+choice-rounds-are-method-twos zero rows aim other = refl
+choice-rounds-are-method-twos (suc zero) rows aim other = refl
+choice-rounds-are-method-twos (suc (suc zero)) rows aim other = absurd (other refl)
+choice-rounds-are-method-twos (suc (suc (suc n))) rows aim other = refl
 
 not-two : (method : ℤ) → (method ≡ pos 2 → ⊥) → up method ≡ 2 → ⊥
 not-two (pos n) other e = other (ap pos e)
 not-two (negsuc n) other e = let z : _≡_ {A = ℕ} 0 2 = e in omega arith
 
 pub rounds-are-method-twos : RoundsAreMethodTwos
-rounds-are-method-twos s t method asked q list other = go (isAccepted (askOut s t method asked q list .answer)) refl
+rounds-are-method-twos w ask list other = go (isAccepted (askOut w ask list .answer)) refl
   where
-    go : (b : Bool) → isAccepted (askOut s t method asked q list .answer) ≡ b → countsOf (askOut s t method asked q list .answer) .rounds ≡ 0
+    go : (b : Bool) → isAccepted (askOut w ask list .answer) ≡ b → countsOf (askOut w ask list .answer) .rounds ≡ 0
     go true h =
-        counts-exact s t method asked q list h .rounds-are
-        ∙ summed-same (λ p. choiceOf s t (up method) asked q p .rounds) (λ p. 0) (livePhases (phaseOf (nowOf s)))
-        (λ p m. choice-rounds-are-method-twos (up method) (rowsOfSlot t (slotOf p)) q (sinceReference p asked) (not-two method other))
-        ∙ summed-none (livePhases (phaseOf (nowOf s)))
-    go false h = ap (λ (k : Counts). k .rounds) (refusals-are-plain (askOut s t method asked q list .answer) .no-counts h)
+        counts-exact w ask list h .rounds-are
+        ∙ summed-same (λ p. choiceOf w ask p .rounds) (λ p. 0) (livePhases (phaseOf (timeIn w)))
+        (λ p m. choice-rounds-are-method-twos (up (ask .method)) (rowsOfSlot (w .table) (slotOf p)) (aimIn p (ask .query)) (not-two (ask .method) other))
+        ∙ summed-none (livePhases (phaseOf (timeIn w)))
+    go false h = ap (λ (k : Counts). k .rounds) (refusals-are-plain (askOut w ask list .answer) .no-counts h)
 
--- ---- a refused ask
+-- ---- a refused call
+
+none-written : (a : Answer) (list : List ℕ) → isAccepted a ≡ false → idsWritten a list ≡ []
+none-written (Accepted held) list h = refl
+none-written (Listed ids cells useful rounds) list h = absurd (true-false h)
+none-written (Refused r) list h = refl
+
+call-list-stays : (w : Words) (call : Call) (list : List ℕ) → isAccepted (callOut w call list .answer) ≡ false → callOut w call list .list ≡ list
+unfolding callOut
+call-list-stays w (Call.Clock t) list h = refl
+call-list-stays w (Call.Change c) list h = refl
+call-list-stays w (Call.Ask ask) list h = list-stays w ask list h
 
 pub refused-ask-is-empty : RefusedAskIsEmpty
-unfolding replyTo
-refused-ask-is-empty w method asked q list h = record {
-  no-ids = rw h refl;
-  no-cells = refusals-are-plain (askOut (w .store) (w .table) method asked q list .answer) .no-counts h;
-  list-stays = list-stays (w .store) (w .table) method asked q list h;
-}
+refused-ask-is-empty w lent h =
+    let o = callOut w (lent .call) (lent .list) in
+    record {
+      no-ids = none-written (o .answer) (o .list) h;
+      no-cells = refusals-are-plain (o .answer) .no-counts h;
+      list-stays = call-list-stays w (lent .call) (lent .list) h;
+    }

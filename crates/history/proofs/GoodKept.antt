@@ -1,7 +1,7 @@
 -- What is kept of the ledger alone: an opened ledger is good, and the clock step, a report placed and a report taken out keep it so.
 -- Assumes nothing.
 use mathlib.Core.Path.{_≡_, refl, sym, ap, _∙_, subst}
-use mathlib.Core.Bool.{Bool, true, false, cond}
+use mathlib.Core.Bool.{Bool, true, false, cond, not}
 use mathlib.Core.List.{List, [], _∷_, _++_, List·Memᴰ, List·Memᴰ·head, List·Memᴰ·cases-cons, List·Memᴰ·not-nil, List·Memᴰ·append-cases, List·Memᴰ·eq-of-singleton, Memᴰ·append-left, Memᴰ·append-right}
 use mathlib.Core.Logic.{⊎-elim}
 use Prim.Native.Nat.{ℕ, _<_}
@@ -22,8 +22,8 @@ use Rattle.grid.proofs.Places.{cell-on}
 use Rattle.rows.specs.Phases.{phaseOf, referenceTime, isLive}
 use Rattle.rows.proofs.PhaseLaws.{range-live, phases-grow}
 use Rattle.records.proofs.SoundLawsRanges.{ranges}
-use Rattle.ledger.specs.Machine.{Ledger, Held, Placement, placement, opened, isHeld, without, steppedHeld, newPlacements, livePlacements, stepped, withReport, withoutId}
-use Rattle.ledger.proofs.MachineLaws.{steppedOne, same-report, stepped-length, stepped-held, stepped-from, without-member, without-few, without-held, live-from, live-stays, new-from, new-placed}
+use Rattle.ledger.specs.Machine.{Ledger, Held, Placement, placement, opened, isHeld, without, steppedOne, steppedHeld, newPlacements, livePlacements, stepped, withReport, withoutId}
+use Rattle.ledger.proofs.MachineLaws.{same-report, stepped-length, stepped-held, stepped-from, without-member, without-few, without-held, live-from, live-stays, new-from, new-placed}
 use Rattle.history.proofs.Relation.{heldOnce, GoodHeld, GoodPlacement, Good}
 use Rattle.history.proofs.HeldRecords.{first-once, rest-once, once-more}
 
@@ -60,7 +60,7 @@ good-placement now r h =
 
 -- ---- the clock step
 
-pub once-stepped : (c : ℕ) (hs : List Held) → heldOnce hs ≡ true → heldOnce (steppedHeld c hs) ≡ true
+pub once-stepped : (c : ℤ) (hs : List Held) → heldOnce hs ≡ true → heldOnce (steppedHeld c hs) ≡ true
 unfolding steppedHeld
 once-stepped c [] o = o
 once-stepped c (h ∷ hs) o =
@@ -71,9 +71,9 @@ once-stepped c (h ∷ hs) o =
 
 module _ (t : ℤ) (l : Ledger) (good : Good l) (is-time : isTime t ≡ true) (later : leZ (l .now) t ≡ true) where
   placements′ : List Placement
-  placements′ = livePlacements (phaseOf t) (l .placements) ++ newPlacements (phaseOf t) (l .held)
+  placements′ = livePlacements t (l .placements) ++ newPlacements t (l .held)
 
-  held-on : (h : Held) → List·Memᴰ h (l .held) → GoodHeld t placements′ (steppedOne (phaseOf t) h)
+  held-on : (h : Held) → List·Memᴰ h (l .held) → GoodHeld t placements′ (steppedOne t h)
   unfolding placements′
   held-on h m = go (isLive (phaseOf t) (h .phase)) refl
     where
@@ -90,7 +90,7 @@ module _ (t : ℤ) (l : Ledger) (good : Good l) (is-time : isTime t ≡ true) (l
             sent = sent;
             live = e;
             not-before = g .not-before;
-            placed = Memᴰ·append-left (newPlacements (phaseOf t) (l .held)) (live-stays (phaseOf t) (l .placements) (g .placed) e);
+            placed = Memᴰ·append-left (newPlacements t (l .held)) (live-stays t (l .placements) (g .placed) e);
           }
       go false e =
           record {
@@ -98,22 +98,22 @@ module _ (t : ℤ) (l : Ledger) (good : Good l) (is-time : isTime t ≡ true) (l
             sent = sent;
             live = current-live (phaseOf t);
             not-before = sent-phase t (h .report .t) sent;
-            placed = Memᴰ·append-right (livePlacements (phaseOf t) (l .placements)) (new-placed (phaseOf t) (l .held) m e);
+            placed = Memᴰ·append-right (livePlacements t (l .placements)) (new-placed t (l .held) m (ap not e));
           }
 
   placed-on : (a : Placement) → List·Memᴰ a placements′ → GoodPlacement t a
   unfolding placements′
-  placed-on a m = ⊎-elim old new (List·Memᴰ·append-cases (livePlacements (phaseOf t) (l .placements)) m)
+  placed-on a m = ⊎-elim old new (List·Memᴰ·append-cases (livePlacements t (l .placements)) m)
     where
-      old : List·Memᴰ a (livePlacements (phaseOf t) (l .placements)) → GoodPlacement t a
+      old : List·Memᴰ a (livePlacements t (l .placements)) → GoodPlacement t a
       old k =
-          let from = live-from (phaseOf t) (l .placements) k in
+          let from = live-from t (l .placements) k in
           let g = good .places a (from .0) in
           record { live = from .1; on-grid = g .on-grid; speed-x = g .speed-x; speed-y = g .speed-y }
 
-      new : List·Memᴰ a (newPlacements (phaseOf t) (l .held)) → GoodPlacement t a
+      new : List·Memᴰ a (newPlacements t (l .held)) → GoodPlacement t a
       new k =
-          let from = new-from (phaseOf t) (l .held) k in
+          let from = new-from t (l .held) k in
           subst (GoodPlacement t) (sym (from .2)) (good-placement t (from .0 .report) (good .holds (from .0) (from .1) .ranged))
 
   pub stepped-good : Good (stepped t l)
@@ -121,17 +121,18 @@ module _ (t : ℤ) (l : Ledger) (good : Good l) (is-time : isTime t ≡ true) (l
   stepped-good =
       record {
         time = is-time;
-        few = rw (stepped-length (phaseOf t) (l .held)) (good .few);
-        once = once-stepped (phaseOf t) (l .held) (good .once);
+        few = rw (stepped-length t (l .held)) (good .few);
+        once = once-stepped t (l .held) (good .once);
         holds = λ x m.
-            let from = stepped-from (phaseOf t) (l .held) m in
+            let from = stepped-from t (l .held) m in
             subst (GoodHeld t placements′) (sym (from .2)) (held-on (from .0) (from .1));
         places = placed-on;
       }
 
 -- ---- a report placed in the current phase
 
-pub report-good : (r : Report) (l : Ledger) → Good l → inRange r ≡ true → between (pos 0) (l .now) (r .t) ≡ true → isHeld (r .id) (l .held) ≡ false → length (l .held) < capacity → Good (withReport r l)
+pub report-good : (r : Report) (l : Ledger) → Good l → inRange r ≡ true → between (pos 0) (l .now) (r .t) ≡ true → isHeld (r .id) (l .held) ≡ false → length (l .held) < capacity
+    → Good (withReport r l)
 unfolding withReport
 report-good r l good ranged sent new room =
     record {

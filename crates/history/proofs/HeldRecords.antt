@@ -5,21 +5,23 @@ use mathlib.Core.Path.{_≡_, refl, sym, ap, _∙_}
 use mathlib.Core.Bool.{Bool, true, false, cond, _&&_, not}
 use mathlib.Core.List.{List, [], _∷_, List·Memᴰ, List·Memᴰ·head, List·Memᴰ·tail, List·Memᴰ·not-nil}
 use mathlib.Core.Logic.{⊎-elim}
-use Prim.Native.Nat.{ℕ, suc}
+use Prim.Native.Nat.{suc}
 use lib.IntN.{ℤ}
 use lib.ListN.{length}
 use borrow.Author.Tests.{leb-true, not-true}
 use Rattle.ints.specs.Whole.{eqZ}
+use Rattle.ints.specs.Lists.{passing}
 use Rattle.ints.proofs.Truth.{and-left, and-right}
 use Rattle.ints.proofs.Same.{same-is}
 use Rattle.rows.specs.Phases.{phaseOf, isLive}
 use Rattle.records.specs.Order.{hasId}
 use Rattle.records.specs.Soundness.{isSoundRecord, allSound, idsDistinct}
-use Rattle.store.specs.Changes.{inserted, removed, placedIn, kept, replaced, insertedAll, livesOn, steppedRecords}
+use Rattle.store.specs.Changes.{inserted, insertedAll, removed, placedIn, stays, moves, steppedRecords}
 use Rattle.records.specs.declared.Record.{Record}
 use Rattle.records.proofs.SoundLawsKeys.{live-phase-of-key, placed-right}
 use Rattle.records.proofs.SoundLaws.{record-sound}
-use Rattle.store.proofs.OrderLaws.{Ascending, inserted-from, inserted-length, has-inserted, ascending-inserted, inserted-passes, distinct-inserted, removed-same, removed-other, stepped-kept, stepped-replaced}
+use Rattle.store.proofs.OrderLaws.{Ascending, inserted-from, inserted-length, has-inserted, ascending-inserted}
+use Rattle.store.proofs.OrderLaws.{inserted-passes, distinct-inserted, removed-same, removed-other, stepped-kept, stepped-replaced}
 use Rattle.ledger.specs.Machine.{Held, Placement, isHeld, without, steppedHeld}
 use Rattle.history.proofs.Relation.{recordOf, recordsOfHeld, heldOnce, GoodHeld}
 
@@ -101,7 +103,8 @@ unfolding recordsOfHeld without removed
 records-removed id [] o = refl
 records-removed id (h ∷ hs) o = go (eqZ (h .report .id) id) refl (records-removed id hs (rest-once h hs o))
   where
-    go : (t : Bool) → eqZ (h .report .id) id ≡ t → removed id (recordsOfHeld hs) ≡ recordsOfHeld (without id hs) → removed id (inserted (recordOf h) (recordsOfHeld hs)) ≡ recordsOfHeld (cond t hs (h ∷ without id hs))
+    go : (t : Bool) → eqZ (h .report .id) id ≡ t → removed id (recordsOfHeld hs) ≡ recordsOfHeld (without id hs)
+        → removed id (inserted (recordOf h) (recordsOfHeld hs)) ≡ recordsOfHeld (cond t hs (h ∷ without id hs))
     go true e k =
         removed-same id (recordOf h) (recordsOfHeld hs) e
         (ap (λ (z : ℤ). hasId z (recordsOfHeld hs)) (sym (same-is (h .report .id) id e)) ∙ fresh h hs o)
@@ -110,19 +113,22 @@ records-removed id (h ∷ hs) o = go (eqZ (h .report .id) id) refl (records-remo
 
 -- ---- the clock step
 
-pub records-stepped : (c later : ℕ) (hs : List Held) → heldOnce hs ≡ true → ((h : Held) → List·Memᴰ h hs → isLive c (h .phase) ≡ true) → steppedRecords c later (recordsOfHeld hs) ≡ recordsOfHeld (steppedHeld later hs)
-unfolding recordsOfHeld steppedHeld kept replaced insertedAll
-records-stepped c later [] o live = refl
-records-stepped c later (h ∷ hs) o live =
-    go (isLive later (h .phase)) refl (records-stepped c later hs (rest-once h hs o) (λ g m. live g (List·Memᴰ·tail m)))
+pub records-stepped : (now time : ℤ) (hs : List Held) → heldOnce hs ≡ true → ((h : Held) → List·Memᴰ h hs → isLive (phaseOf now) (h .phase) ≡ true)
+    → steppedRecords now time (recordsOfHeld hs) ≡ recordsOfHeld (steppedHeld time hs)
+unfolding recordsOfHeld steppedHeld steppedRecords passing insertedAll
+records-stepped now time [] o live = refl
+records-stepped now time (h ∷ hs) o live =
+    go (isLive (phaseOf time) (h .phase)) refl (records-stepped now time hs (rest-once h hs o) (λ g m. live g (List·Memᴰ·tail m)))
   where
-    phase : livesOn c later (recordOf h) ≡ isLive later (h .phase)
-    phase = ap (isLive later) (live-phase-of-key c (h .phase) (h .report) (live h (List·Memᴰ·head refl)))
+    phase : stays now time (recordOf h) ≡ isLive (phaseOf time) (h .phase)
+    phase = ap (isLive (phaseOf time)) (live-phase-of-key (phaseOf now) (h .phase) (h .report) (live h (List·Memᴰ·head refl)))
 
-    go : (t : Bool) → isLive later (h .phase) ≡ t → steppedRecords c later (recordsOfHeld hs) ≡ recordsOfHeld (steppedHeld later hs) → steppedRecords c later (inserted (recordOf h) (recordsOfHeld hs)) ≡ inserted (recordOf (cond t h (record { report = h .report; phase = later }))) (recordsOfHeld (steppedHeld later hs))
+    go : (t : Bool) → isLive (phaseOf time) (h .phase) ≡ t → steppedRecords now time (recordsOfHeld hs) ≡ recordsOfHeld (steppedHeld time hs)
+        → steppedRecords now time (inserted (recordOf h) (recordsOfHeld hs))
+        ≡ inserted (recordOf (cond t h (record { report = h .report; phase = phaseOf time }))) (recordsOfHeld (steppedHeld time hs))
     go true e k =
-        stepped-kept c later (recordOf h) (recordsOfHeld hs) (phase ∙ e) (fresh h hs o) (records-ascending hs (rest-once h hs o))
+        stepped-kept (phaseOf time) (stays now time) (moves now time) (recordOf h) (recordsOfHeld hs) (phase ∙ e) (ap not (phase ∙ e)) (fresh h hs o) (records-ascending hs (rest-once h hs o))
         ∙ ap (inserted (recordOf h)) k
     go false e k =
-        stepped-replaced c later (recordOf h) (recordsOfHeld hs) (phase ∙ e) (fresh h hs o)
-        ∙ ap (inserted (placedIn later (h .report))) k
+        stepped-replaced (phaseOf time) (stays now time) (moves now time) (recordOf h) (recordsOfHeld hs) (phase ∙ e) (ap not (phase ∙ e)) (fresh h hs o)
+        ∙ ap (inserted (placedIn (phaseOf time) (h .report))) k

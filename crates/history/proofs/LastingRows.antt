@@ -22,26 +22,34 @@ use Rattle.rows.specs.declared.Row.{Row}
 use Rattle.rows.proofs.PhaseLaws.{live-range, range-live, slot-on, phases-grow}
 use Rattle.rows.proofs.RowLaws.{Within, within-refl, within-trans, within-joined-left, holds-within, bounds-grow}
 use Rattle.rows.proofs.TableLaws.{row-written, row-other, length-with-row, length-newly-live-empty, earlier-live-kept}
-use Rattle.records.specs.Records.{nowOf, recordsOf, storeOf}
+use Rattle.records.specs.Words.{Words, timeIn, recordsIn}
 use Rattle.records.specs.Order.{slotOfKey, numberOfKey}
-use Rattle.store.specs.Changes.{placedIn, replaced, withSpeeds}
+use Rattle.store.specs.Changes.{inserted, removed, placedIn, moves, replaced, steppedRecords, withSpeeds}
+use Rattle.words.specs.Words as Index
 use Rattle.records.specs.declared.Record.{Record}
 use Rattle.records.proofs.RecordLaws.{now-of-store}
 use Rattle.records.proofs.SoundLawsRanges.{number-of-key-below}
 use Rattle.store.proofs.SpeedLaws.{with-speeds-length}
 use Rattle.ledger.specs.Answers.{isAccepted}
-use Rattle.ledger.specs.Refusals.{Check, check, firstToFail, badStepTime}
-use Rattle.ledger.specs.Machine.{Ledger, Placement, livePlacements, newPlacements, stepped, withReport, withoutId, speedsPlaced, rowsIn}
+use Rattle.ledger.specs.Refusals.{Check, check, firstToFail, badStepTime, timeOf}
+use Rattle.ledger.specs.Machine.{Ledger, Placement, livePlacements, newPlacements, stepped, withReport, withoutId, changed, speedsPlaced, rowsIn}
 use Rattle.ledger.specs.Calls as L
-use Rattle.ledger.specs.Calls.{Call}
-use Rattle.ledger.specs.declared.Answer.{Answer}
+use Rattle.ledger.specs.Calls.{Fed}
+use Rattle.ledger.specs.declared.Call.{Call}
+use Rattle.ledger.specs.declared.Call.the-variants as Call
+use Rattle.ledger.specs.declared.Change.{Change}
+use Rattle.ledger.specs.declared.Change.the-variants as Change
+use Rattle.ledger.specs.declared.Verdict.{Verdict}
+use Rattle.ledger.specs.declared.Verdict.the-variants.{Passed, Failed}
 use Rattle.ledger.specs.declared.Refusal.the-variants.{WrongLength, Unsound, BadTime}
 use Rattle.ledger.proofs.MachineLaws.{speeds-append, speeds-live}
-use Rattle.engine.specs.Index.{wrongLength, unsound, lentChecks, settled, tableAfterStep, widenedBy, clockOut, addOut, reportOut, dropOut}
-use Rattle.engine.proofs.CallLaws.{right-lengths}
-use Rattle.history.specs.Index.{Words, LentCall, clock, add, report, drop, ask, next, after, wordsOf}
+use Rattle.ledger.proofs.VerdictLaws.{first-passed, others-passed, passed-of}
+use Rattle.engine.specs.Index.{wrongLength, unsound, lentChecks, settled, clockOut, changeOut, callOut}
+use Rattle.engine.specs.Index as Engine
+use Rattle.engine.proofs.CheckLaws.{right-lengths}
+use Rattle.history.specs.Index.{LentCall, next, after}
 use Rattle.history.specs.Claims.{phaseNow, RowsNeverNarrow, LedgerRowsNeverNarrow}
-use Rattle.history.proofs.Steps.{passed, others, step-later}
+use Rattle.history.proofs.Steps.{step-later}
 
 -- ---- rows of a table that is widened
 
@@ -101,83 +109,88 @@ lasts-trans {u} {v} {w} f g =
           within-trans (f .keeps p h live n here) (g .keeps p live k n here);
     }
 
-module _ (w : Words) (time : ℤ) (sized : length (w .table) ≡ tableWords) (later : leZ (nowOf (w .store)) time ≡ true) where
-  abbrev stepTable : List ℤ
-  stepTable = tableAfterStep (w .store) (w .table) time
+-- the clock step
+step-lasts : (w : Words) (time : ℤ) → length (w .table) ≡ tableWords → leZ (timeIn w) time ≡ true → Lasts w (Index.stepped time w)
+unfolding Index.stepped Index.tableStepped
+step-lasts w time sized later =
+    let c = phaseOf (timeIn w) in
+    let to = phaseOf time in
+    let bare = withNewlyLiveEmpty (w .table) c to in
+    let anew = replaced to (moves (timeIn w) time) (recordsIn w) in
+    let now = now-of-store time (steppedRecords (timeIn w) time (recordsIn w)) in
+    let rises = phases-grow (timeIn w) time later in
+    record {
+      phase-rises = rw now rises;
+      keeps = λ p h k n here.
+          subst (λ (r : Row). Within r (rowAt (withSpeeds bare anew) (slotOf p) n))
+          (earlier-live-kept (w .table) c to sized p n (rw now at k) here (live-range c p h .0))
+          (all-widened bare anew (slotOf p) n (length-newly-live-empty (w .table) c to sized) (slot-on p) here);
+    }
 
-  step-sized : length stepTable ≡ tableWords
-  unfolding tableAfterStep
-  step-sized =
-      let c = phaseOf (nowOf (w .store)) in
-      with-speeds-length (withNewlyLiveEmpty (w .table) c (phaseOf time)) (replaced c (phaseOf time) (recordsOf (w .store)))
-      ∙ length-newly-live-empty (w .table) c (phaseOf time) sized
+-- the same time, and a table whose rows are no narrower
+place-lasts : (w : Words) (r : Report) → length (w .table) ≡ tableWords → Lasts w (Index.placed r w)
+unfolding Index.placed
+place-lasts w r sized =
+    let new = placedIn (phaseOf (r .t)) r in
+    let now = now-of-store (timeIn w) (inserted new (recordsIn w)) in
+    record {
+      phase-rises = rw now (omega arith);
+      keeps = λ p h k n here.
+          one-widened (w .table) (slotOfKey (new .key)) (numberOfKey (new .key)) (slotOf p) n (r .vx) (r .vy) sized (number-of-key-below (new .key)) (slot-on p) here;
+    }
 
-  step-keeps : (p : ℕ) → isLive (phaseNow w) p ≡ true → isLive (phaseOf time) p ≡ true → (n : ℕ) → n < cells → Within (rowAt (w .table) (slotOf p) n) (rowAt stepTable (slotOf p) n)
-  unfolding tableAfterStep
-  step-keeps p h k n here =
-      let c = phaseOf (nowOf (w .store)) in
-      let bare = withNewlyLiveEmpty (w .table) c (phaseOf time) in
-      subst (λ (r : Row). Within r (rowAt stepTable (slotOf p) n))
-      (earlier-live-kept (w .table) c (phaseOf time) sized p n k here (live-range c p h .0))
-      (all-widened bare (replaced c (phaseOf time) (recordsOf (w .store))) (slotOf p) n (length-newly-live-empty (w .table) c (phaseOf time) sized) (slot-on p) here)
+take-lasts : (w : Words) (id : ℤ) → Lasts w (Index.takenOut id w)
+unfolding Index.takenOut
+take-lasts w id =
+    let now = now-of-store (timeIn w) (removed id (recordsIn w)) in
+    record { phase-rises = rw now (omega arith); keeps = λ p h k n here. within-refl (rowAt (w .table) (slotOf p) n) }
 
-  -- the step, and then a table whose rows are no narrower
-  step-lasts : (rs : List Record) (t : List ℤ) → ((slot n : ℕ) → slot < slots → n < cells → Within (rowAt stepTable slot n) (rowAt t slot n)) → Lasts w (record { store = storeOf time rs; table = t })
-  step-lasts rs t wider =
-      let now = now-of-store time rs in
-      let rises = phases-grow (nowOf (w .store)) time later in
-      record {
-        phase-rises = rw now rises;
-        keeps = λ p h k n here.
-            within-trans (step-keeps p h (rw now at k) n here) (wider (slotOf p) n (slot-on p) here);
-      }
+step-sized : (w : Words) (time : ℤ) → length (w .table) ≡ tableWords → length (Index.stepped time w .table) ≡ tableWords
+unfolding Index.stepped Index.tableStepped
+step-sized w time sized =
+    let c = phaseOf (timeIn w) in
+    with-speeds-length (withNewlyLiveEmpty (w .table) c (phaseOf time)) (replaced (phaseOf time) (moves (timeIn w) time) (recordsIn w))
+    ∙ length-newly-live-empty (w .table) c (phaseOf time) sized
 
-  step-alone : (rs : List Record) → Lasts w (record { store = storeOf time rs; table = stepTable })
-  step-alone rs = step-lasts rs stepTable (λ slot n on here. within-refl (rowAt stepTable slot n))
+take-sized : (w : Words) (id : ℤ) → length (Index.takenOut id w .table) ≡ length (w .table)
+unfolding Index.takenOut
+take-sized w id = refl
 
-  step-and-one : (rs : List Record) (r : Record) → Lasts w (record { store = storeOf time rs; table = widenedBy stepTable r })
-  step-and-one rs r =
-      step-lasts rs (widenedBy stepTable r)
-      (λ slot n on here.
-      one-widened stepTable (slotOfKey (r .key)) (numberOfKey (r .key)) slot n (r .report .vx) (r .report .vy) step-sized (number-of-key-below (r .key)) on here)
+-- what a change does after the step
+change-lasts : (w : Words) (c : Change) → length (w .table) ≡ tableWords → Lasts w (Engine.changed c w)
+change-lasts w (Change.Add r) sized = place-lasts w r sized
+change-lasts w (Change.Report r) sized =
+    lasts-trans (take-lasts w (r .id)) (place-lasts (Index.takenOut (r .id) w) r (take-sized w (r .id) ∙ sized))
+change-lasts w (Change.Drop id t) sized = take-lasts w id
 
--- an accepted call's table is whole and its time not before now; a refused call leaves the words
+-- a call whose checks are passed has a whole table and a time not before now; a refused one leaves the words
 settled-lasts :
-    (w : Words) (time : ℤ) (more : List Check) (accepted : Answer) (s t : List ℤ)
-    → let a = firstToFail (lentChecks (w .store) (w .table) (check (badStepTime (nowOf (w .store)) time) BadTime ∷ more)) accepted in
-    (length (w .table) ≡ tableWords → leZ (nowOf (w .store)) time ≡ true → Lasts w (record { store = s; table = t }))
-    → Lasts w (wordsOf (settled a (w .store) (w .table) s t))
-unfolding settled
-settled-lasts w time more accepted s t lasts = go (isAccepted a) refl
-  where
-    timed : List Check
-    timed = check (badStepTime (nowOf (w .store)) time) BadTime ∷ more
+    (w w′ : Words) (time : ℤ) (more : List Check)
+    → (length (w .table) ≡ tableWords → leZ (timeIn w) time ≡ true → Lasts w w′)
+    → (v : Verdict)
+    → firstToFail (lentChecks w (check (badStepTime (timeIn w) time) BadTime ∷ more)) ≡ v
+    → Lasts w (settled v w w′ .words)
+settled-lasts w w′ time more lasts (Failed r) e = lasts-refl w
+settled-lasts w w′ time more lasts Passed e =
+    let timed = check (badStepTime (timeIn w) time) BadTime ∷ more in
+    let odd = check (unsound w) Unsound ∷ timed in
+    let long = right-lengths w (first-passed (wrongLength w) WrongLength odd e) in
+    let rest = others-passed (unsound w) Unsound timed (others-passed (wrongLength w) WrongLength odd e) in
+    lasts (long .table-long) (step-later (timeIn w) time (first-passed (badStepTime (timeIn w) time) BadTime more rest))
 
-    a : Answer
-    a = firstToFail (lentChecks (w .store) (w .table) timed) accepted
-
-    go : (b : Bool) → isAccepted a ≡ b → Lasts w (record { store = cond b s (w .store); table = cond b t (w .table) })
-    go true h =
-        let odd = check (unsound (w .store) (w .table)) Unsound ∷ timed in
-        let long = passed (wrongLength (w .store) (w .table)) WrongLength odd accepted h in
-        let h₁ = others (wrongLength (w .store) (w .table)) WrongLength odd accepted h in
-        let h₂ = others (unsound (w .store) (w .table)) Unsound timed accepted h₁ in
-        let fine = passed (badStepTime (nowOf (w .store)) time) BadTime more accepted h₂ in
-        lasts (right-lengths (w .store) (w .table) long .1) (step-later (nowOf (w .store)) time fine)
-    go false h = lasts-refl w
-
-call-lasts : (w : Words) (call : LentCall) → Lasts w (next w call)
-unfolding next clockOut addOut reportOut dropOut
-call-lasts w (clock time) = settled-lasts w time _ _ _ _ (λ sized later. step-alone w time sized later _)
-call-lasts w (add r) = settled-lasts w (r .t) _ _ _ _ (λ sized later. step-and-one w (r .t) sized later _ (placedIn (phaseOf (r .t)) r))
-call-lasts w (report r) = settled-lasts w (r .t) _ _ _ _ (λ sized later. step-and-one w (r .t) sized later _ (placedIn (phaseOf (r .t)) r))
-call-lasts w (drop id time) = settled-lasts w time _ _ _ _ (λ sized later. step-alone w time sized later _)
-call-lasts w (ask method asked q list) = lasts-refl w
+call-lasts : (w : Words) (call : Call) (list : List ℕ) → Lasts w (callOut w call list .words)
+unfolding callOut clockOut changeOut
+call-lasts w (Call.Clock t) list = settled-lasts w (Index.stepped t w) t [] (λ sized later. step-lasts w t sized later) _ refl
+call-lasts w (Call.Change c) list =
+    settled-lasts w (Engine.changed c (Index.stepped (timeOf c) w)) (timeOf c) _
+    (λ sized later. lasts-trans (step-lasts w (timeOf c) sized later) (change-lasts (Index.stepped (timeOf c) w) c (step-sized w (timeOf c) sized)))
+    _ refl
+call-lasts w (Call.Ask ask) list = lasts-refl w
 
 calls-last : (calls : List LentCall) (w : Words) → Lasts w (after w calls)
 unfolding after
 calls-last [] w = lasts-refl w
-calls-last (call ∷ calls) w = lasts-trans (call-lasts w call) (calls-last calls (next w call))
+calls-last (call ∷ calls) w = lasts-trans (call-lasts w (call .call) (call .list)) (calls-last calls (next w call))
 
 -- ---- the ledger
 
@@ -210,9 +223,9 @@ unfolding stepped rowsIn
 stepped-lasts time l later = record {
   phase-rises = phases-grow (l .now) time later;
   keeps = λ p h k c.
-      subst (λ (rs : List Row). Within (boundsOf rs) (boundsOf (speedsPlaced p c (livePlacements (phaseOf time) (l .placements) ++ newPlacements (phaseOf time) (l .held)))))
-      (speeds-live (phaseOf time) p c (l .placements) k)
-      (more-placed p c (livePlacements (phaseOf time) (l .placements)) (newPlacements (phaseOf time) (l .held)));
+      subst (λ (rs : List Row). Within (boundsOf rs) (boundsOf (speedsPlaced p c (livePlacements time (l .placements) ++ newPlacements time (l .held)))))
+      (speeds-live time p c (l .placements) k)
+      (more-placed p c (livePlacements time (l .placements)) (newPlacements time (l .held)));
 }
 
 with-report-lasts : (r : Report) (l : Ledger) → LedgerLasts l (withReport r l)
@@ -224,30 +237,31 @@ unfolding withoutId rowsIn
 without-lasts id l =
     record { phase-rises = omega arith; keeps = λ p h k c. within-refl (boundsOf (speedsPlaced p c (l .placements))) }
 
-changed-lasts : (l : Ledger) (call : Call) → isAccepted (L.answerTo l call) ≡ true → LedgerLasts l (L.changedBy l call)
-unfolding L.answerTo L.changedBy
-changed-lasts l (L.clock t) h = stepped-lasts t l (step-later (l .now) t (passed _ BadTime _ _ h))
-changed-lasts l (L.add r) h =
-    ledger-trans (stepped-lasts (r .t) l (step-later (l .now) (r .t) (passed _ BadTime _ _ h))) (with-report-lasts r (stepped (r .t) l))
-changed-lasts l (L.report r) h =
-    ledger-trans (stepped-lasts (r .t) l (step-later (l .now) (r .t) (passed _ BadTime _ _ h)))
-    (ledger-trans (without-lasts (r .id) (stepped (r .t) l)) (with-report-lasts r (withoutId (r .id) (stepped (r .t) l))))
-changed-lasts l (L.drop id t) h =
-    ledger-trans (stepped-lasts t l (step-later (l .now) t (passed _ BadTime _ _ h))) (without-lasts id (stepped t l))
-changed-lasts l (L.ask method asked q room) h = ledger-refl l
+changed-lasts : (l : Ledger) (c : Change) → LedgerLasts l (changed c l)
+changed-lasts l (Change.Add r) = with-report-lasts r l
+changed-lasts l (Change.Report r) = ledger-trans (without-lasts (r .id) l) (with-report-lasts r (withoutId (r .id) l))
+changed-lasts l (Change.Drop id t) = without-lasts id l
 
-next-lasts : (l : Ledger) (call : Call) → LedgerLasts l (L.next l call)
-unfolding L.next
-next-lasts l call = go (isAccepted (L.answerTo l call)) refl
+passed-lasts : (l : Ledger) (call : Call) (room : ℕ) → firstToFail (L.checksOf l call room) ≡ Passed → LedgerLasts l (L.changedBy l call)
+unfolding L.changedBy
+passed-lasts l (Call.Clock t) room p = stepped-lasts t l (step-later (l .now) t (first-passed (badStepTime (l .now) t) BadTime [] p))
+passed-lasts l (Call.Change c) room p =
+    ledger-trans (stepped-lasts (timeOf c) l (step-later (l .now) (timeOf c) (first-passed (badStepTime (l .now) (timeOf c)) BadTime _ p)))
+    (changed-lasts (stepped (timeOf c) l) c)
+passed-lasts l (Call.Ask ask) room p = ledger-refl l
+
+next-lasts : (l : Ledger) (fed : Fed) → LedgerLasts l (L.next l fed)
+unfolding L.next L.answerTo
+next-lasts l fed = go (isAccepted (L.answerTo l fed)) refl
   where
-    go : (b : Bool) → isAccepted (L.answerTo l call) ≡ b → LedgerLasts l (cond b (L.changedBy l call) l)
-    go true h = changed-lasts l call h
+    go : (b : Bool) → isAccepted (L.answerTo l fed) ≡ b → LedgerLasts l (cond b (L.changedBy l (fed .call)) l)
+    go true h = passed-lasts l (fed .call) (fed .room) (passed-of (firstToFail (L.checksOf l (fed .call) (fed .room))) (L.ifNoneFails l (fed .call)) h)
     go false h = ledger-refl l
 
-after-lasts : (calls : List Call) (l : Ledger) → LedgerLasts l (L.after l calls)
+after-lasts : (calls : List Fed) (l : Ledger) → LedgerLasts l (L.after l calls)
 unfolding L.after
 after-lasts [] l = ledger-refl l
-after-lasts (call ∷ calls) l = ledger-trans (next-lasts l call) (after-lasts calls (L.next l call))
+after-lasts (fed ∷ more) l = ledger-trans (next-lasts l fed) (after-lasts more (L.next l fed))
 
 -- ---- both
 

@@ -1,8 +1,8 @@
 -- The rows of the index's table are the ledger's: valid, and still so after a clock step and after a report is placed.
 -- Assumes nothing.
 use mathlib.Core.Path.{_≡_, refl, sym, ap, ap₂, _∙_, subst}
-use mathlib.Core.Bool.{Bool, true, false, cond, _&&_}
-use mathlib.Core.List.{List, [], _∷_, _++_, List·Memᴰ, List·Memᴰ·head, List·Memᴰ·tail, List·Memᴰ·eq-of-singleton, Memᴰ·append-left, Memᴰ·append-right}
+use mathlib.Core.Bool.{Bool, true, false, cond, _&&_, not}
+use mathlib.Core.List.{List, [], _∷_, _++_, map, List·Memᴰ, List·Memᴰ·head, List·Memᴰ·tail, List·Memᴰ·eq-of-singleton, Memᴰ·append-left, Memᴰ·append-right}
 use mathlib.Core.Logic.{⊎-elim, dite}
 use Prim.Native.Nat.{ℕ, _≤_, _<_}
 use native.Mathlib.Decide.{decLt}
@@ -12,6 +12,7 @@ use lib.IntN.{ℤ}
 use lib.ListN.{length}
 use lib.Signed.{leZ}
 use borrow.Author.Tests.{eqb-true, eq-eqb, ne-eqb}
+use Rattle.ints.specs.Lists.{passing}
 use Rattle.ints.proofs.Truth.{same-truth, and-true, and-left, and-right}
 use Rattle.grid.specs.Units.{cells}
 use Rattle.grid.specs.Places.{OnGrid}
@@ -30,23 +31,18 @@ use Rattle.rows.proofs.PhaseLaws.{live-range, range-live, same-slot, slot-on, p
 use Rattle.rows.proofs.TableLaws.{length-newly-live-empty, newly-live-emptied, earlier-live-kept}
 use Rattle.rows.proofs.SlotLaws.{phase-in-slot, slot-cases, other-slot-kept}
 use Rattle.records.specs.Order.{keyIn, slotOfKey, numberOfKey}
-use Rattle.store.specs.Changes.{placedIn, livesOn, replaced, withSpeeds}
+use Rattle.store.specs.Changes.{placedIn, stays, moves, replaced, withSpeeds}
 use Rattle.records.specs.declared.Record.{Record}
 use Rattle.records.proofs.SoundLawsKeys.{slot-of-key-in, number-of-key-in, live-phase-of-key}
 use Rattle.records.proofs.SoundLawsRanges.{ranges, speed-size}
 use Rattle.store.proofs.OrderLaws.{replaced-from}
 use Rattle.store.proofs.SpeedLaws.{liesAt, speedsAt, Placeable, newBounds, withOne, bounds-inserted, with-speeds-length, row-with-speeds, none-elsewhere}
+use Rattle.ledger.specs.Machine as Ledger
 use Rattle.ledger.specs.Machine.{Ledger, Held, Placement, placeIn, placement, newPlacements, livePlacements, stepped, withReport, speedsPlaced, rowsIn}
 use Rattle.ledger.proofs.MachineLaws.{isThere, speeds-append, speeds-live, no-speeds, speed-from}
-use Rattle.history.proofs.Relation.{recordOf, recordsOfHeld, GoodPlacement, Good}
+use Rattle.history.proofs.Relation.{recordOf, recordsOfHeld, GoodPlacement, Good, TableMatches}
 use Rattle.history.proofs.HeldRecords.{records-from}
 use Rattle.history.proofs.GoodKept.{current-live, good-placement, stepped-good}
-
--- what is said of the table alone
-pub record TableMatches (l : Ledger) (t : List ℤ) : Type 0 where
-  pub table-long : length t ≡ tableWords
-  pub rows-are : (p : ℕ) → isLive (phaseOf (l .now)) p ≡ true → (n : ℕ) → n < cells → rowAt t (slotOf p) n ≡ rowsIn l p (cellOfNumber n)
-  pub rest-empty : (slot n : ℕ) → slot < slots → n < cells → ((p : ℕ) → isLive (phaseOf (l .now)) p ≡ true → slotOf p ≡ slot → ⊥) → rowAt t slot n ≡ emptyRow
 
 -- ---- valid rows
 
@@ -113,17 +109,21 @@ placeable p r h =
 -- ---- the clock step
 
 -- the bounds of the speeds placed anew in a row, by the records and by the held reports
-pub bounds-alike : (c later p n : ℕ) (hs : List Held) → ((h : Held) → List·Memᴰ h hs → isLive c (h .phase) ≡ true) → isLive later p ≡ true → n < cells → newBounds c later (slotOf p) n (recordsOfHeld hs) ≡ boundsOf (speedsPlaced p (cellOfNumber n) (newPlacements later hs))
-unfolding recordsOfHeld newPlacements speedsPlaced boundsOf speedsAt replaced
-bounds-alike c later p n [] each live k = refl
-bounds-alike c later p n (h ∷ hs) each live k =
-    bounds-inserted c later (slotOf p) n (recordOf h) (recordsOfHeld hs)
-    ∙ ap (withOne c later (slotOf p) n (recordOf h)) (bounds-alike c later p n hs (λ g m. each g (List·Memᴰ·tail m)) live k)
-    ∙ ap₂ (λ (a b : Bool). cond a bounds (cond b (joined one bounds) bounds)) phase (placed-alike later p later n (h .report) live (current-live later) k)
-    ∙ go (isLive later (h .phase)) (isThere p (cellOfNumber n) (placement later (h .report)))
+pub bounds-alike : (now time : ℤ) (p n : ℕ) (hs : List Held) → ((h : Held) → List·Memᴰ h hs → isLive (phaseOf now) (h .phase) ≡ true) → isLive (phaseOf time) p ≡ true → n < cells
+    → newBounds (phaseOf time) (moves now time) (slotOf p) n (recordsOfHeld hs) ≡ boundsOf (speedsPlaced p (cellOfNumber n) (newPlacements time hs))
+unfolding recordsOfHeld newPlacements speedsPlaced boundsOf speedsAt passing
+bounds-alike now time p n [] each live k = refl
+bounds-alike now time p n (h ∷ hs) each live k =
+    bounds-inserted (phaseOf time) (moves now time) (slotOf p) n (recordOf h) (recordsOfHeld hs)
+    ∙ ap (withOne (phaseOf time) (moves now time) (slotOf p) n (recordOf h)) (bounds-alike now time p n hs (λ g m. each g (List·Memᴰ·tail m)) live k)
+    ∙ ap₂ (λ (a b : Bool). cond a (cond b (joined one bounds) bounds) bounds) (ap not phase) (placed-alike later p later n (h .report) live (current-live later) k)
+    ∙ go (Ledger.moves time h)
   where
+    later : ℕ
+    later = phaseOf time
+
     speeds : List Row
-    speeds = speedsPlaced p (cellOfNumber n) (newPlacements later hs)
+    speeds = speedsPlaced p (cellOfNumber n) (newPlacements time hs)
 
     bounds : Row
     bounds = boundsOf speeds
@@ -131,16 +131,19 @@ bounds-alike c later p n (h ∷ hs) each live k =
     one : Row
     one = rowOfSpeed (h .report .vx) (h .report .vy)
 
-    phase : livesOn c later (recordOf h) ≡ isLive later (h .phase)
-    phase = ap (isLive later) (live-phase-of-key c (h .phase) (h .report) (each h (List·Memᴰ·head refl)))
+    phase : stays now time (recordOf h) ≡ isLive (phaseOf time) (h .phase)
+    phase = ap (isLive (phaseOf time)) (live-phase-of-key (phaseOf now) (h .phase) (h .report) (each h (List·Memᴰ·head refl)))
 
     inner : (b : Bool) → cond b (joined one bounds) bounds ≡ boundsOf (cond b (one ∷ speeds) speeds)
     inner true = refl
     inner false = refl
 
-    go : (a b : Bool) → cond a bounds (cond (isThere p (cellOfNumber n) (placement later (h .report))) (joined one bounds) bounds) ≡ boundsOf (speedsPlaced p (cellOfNumber n) (cond a (newPlacements later hs) (placement later (h .report) ∷ newPlacements later hs)))
-    go true b = refl
-    go false b = inner (isThere p (cellOfNumber n) (placement later (h .report)))
+    anew : Bool → List Placement
+    anew a = map (λ x. placement (phaseOf time) (x .report)) (cond a (h ∷ passing (Ledger.moves time) hs) (passing (Ledger.moves time) hs))
+
+    go : (a : Bool) → cond a (cond (isThere p (cellOfNumber n) (placement (phaseOf time) (h .report))) (joined one bounds) bounds) bounds ≡ boundsOf (speedsPlaced p (cellOfNumber n) (anew a))
+    go true = inner (isThere p (cellOfNumber n) (placement (phaseOf time) (h .report)))
+    go false = refl
 
 module _ (l : Ledger) (t : List ℤ) (time : ℤ) (good : Good l) (table : TableMatches l t) (is-time : isTime time ≡ true) (later : leZ (l .now) time ≡ true) where
   abbrev c : ℕ
@@ -153,7 +156,7 @@ module _ (l : Ledger) (t : List ℤ) (time : ℤ) (good : Good l) (table : Table
   emptied = withNewlyLiveEmpty t c c′
 
   abbrev anew : List Record
-  anew = replaced c c′ (recordsOfHeld (l .held))
+  anew = replaced c′ (moves (l .now) time) (recordsOfHeld (l .held))
 
   not-earlier : c ≤ c′
   not-earlier = phases-grow (l .now) time later
@@ -163,7 +166,7 @@ module _ (l : Ledger) (t : List ℤ) (time : ℤ) (good : Good l) (table : Table
 
   each-placeable : (r : Record) → List·Memᴰ r anew → Placeable r
   each-placeable r m =
-      let from = replaced-from c c′ (recordsOfHeld (l .held)) m in
+      let from = replaced-from c′ (moves (l .now) time) (recordsOfHeld (l .held)) m in
       let held = records-from (l .held) (from .1) in
       let report = ap (λ (x : Record). x .report) (held .2) in
       subst Placeable (sym (from .2))
@@ -171,10 +174,10 @@ module _ (l : Ledger) (t : List ℤ) (time : ℤ) (good : Good l) (table : Table
 
   module _ (p n : ℕ) (live : isLive c′ p ≡ true) (here : n < cells) where
     abbrev old : List Row
-    old = speedsPlaced p (cellOfNumber n) (livePlacements c′ (l .placements))
+    old = speedsPlaced p (cellOfNumber n) (livePlacements time (l .placements))
 
     abbrev new : List Row
-    new = speedsPlaced p (cellOfNumber n) (newPlacements c′ (l .held))
+    new = speedsPlaced p (cellOfNumber n) (newPlacements time (l .held))
 
     kept-row : rowAt emptied (slotOf p) n ≡ boundsOf old
     unfolding rowsIn boundsOf
@@ -182,27 +185,30 @@ module _ (l : Ledger) (t : List ℤ) (time : ℤ) (good : Good l) (table : Table
         dite (decLt c p)
         (λ newly.
         newly-live-emptied t c c′ (table .table-long) p n live here newly
-        ∙ sym (ap boundsOf (speeds-live c′ p (cellOfNumber n) (l .placements) live ∙ no-speeds p (cellOfNumber n) (l .placements) (λ a m e. let r = live-range c (a .phase) (good .places a m .live) in omega arith))))
+        ∙ sym (ap boundsOf (speeds-live time p (cellOfNumber n) (l .placements) live
+        ∙ no-speeds p (cellOfNumber n) (l .placements) (λ a m e. let r = live-range c (a .phase) (good .places a m .live) in omega arith))))
         (λ n₂.
         let before : p ≤ c = omega arith in
         let range = live-range c′ p live in
         let was : isLive c p ≡ true = range-live c p before (omega (arith, not-earlier)) in
         earlier-live-kept t c c′ (table .table-long) p n live here before
         ∙ table .rows-are p was n here
-        ∙ sym (ap boundsOf (speeds-live c′ p (cellOfNumber n) (l .placements) live)))
+        ∙ sym (ap boundsOf (speeds-live time p (cellOfNumber n) (l .placements) live)))
 
-    good-after : (a : Placement) → List·Memᴰ a (livePlacements c′ (l .placements) ++ newPlacements c′ (l .held)) → GoodPlacement time a
+    good-after : (a : Placement) → List·Memᴰ a (livePlacements time (l .placements) ++ newPlacements time (l .held)) → GoodPlacement time a
     unfolding stepped
     good-after = stepped-good time l good is-time later .places
 
-    row-stepped : rowAt (withSpeeds emptied anew) (slotOf p) n ≡ boundsOf (speedsPlaced p (cellOfNumber n) (livePlacements c′ (l .placements) ++ newPlacements c′ (l .held)))
+    row-stepped : rowAt (withSpeeds emptied anew) (slotOf p) n ≡ boundsOf (speedsPlaced p (cellOfNumber n) (livePlacements time (l .placements) ++ newPlacements time (l .held)))
     row-stepped =
         let v : validRow (rowAt emptied (slotOf p) n) ≡ true =
-        ap validRow kept-row ∙ bounds-valid old (speeds-valid time p (cellOfNumber n) (livePlacements c′ (l .placements)) (λ a m. good-after a (Memᴰ·append-left (newPlacements c′ (l .held)) m))) in
+        ap validRow kept-row
+        ∙ bounds-valid old (speeds-valid time p (cellOfNumber n) (livePlacements time (l .placements))
+        (λ a m. good-after a (Memᴰ·append-left (newPlacements time (l .held)) m))) in
         row-with-speeds emptied anew (slotOf p) n long each-placeable here v
-        ∙ ap₂ joined kept-row (bounds-alike c c′ p n (l .held) (λ h m. good .holds h m .live) live here)
-        ∙ sym (bounds-append old new (speeds-valid time p (cellOfNumber n) (newPlacements c′ (l .held)) (λ a m. good-after a (Memᴰ·append-right (livePlacements c′ (l .placements)) m))))
-        ∙ sym (ap boundsOf (speeds-append p (cellOfNumber n) (livePlacements c′ (l .placements)) (newPlacements c′ (l .held))))
+        ∙ ap₂ joined kept-row (bounds-alike (l .now) time p n (l .held) (λ h m. good .holds h m .live) live here)
+        ∙ sym (bounds-append old new (speeds-valid time p (cellOfNumber n) (newPlacements time (l .held)) (λ a m. good-after a (Memᴰ·append-right (livePlacements time (l .placements)) m))))
+        ∙ sym (ap boundsOf (speeds-append p (cellOfNumber n) (livePlacements time (l .placements)) (newPlacements time (l .held))))
 
   rest-stepped : (slot n : ℕ) → slot < slots → n < cells → ((p : ℕ) → isLive c′ p ≡ true → slotOf p ≡ slot → ⊥) → rowAt (withSpeeds emptied anew) slot n ≡ emptyRow
   unfolding boundsOf
@@ -211,7 +217,7 @@ module _ (l : Ledger) (t : List ℤ) (time : ℤ) (good : Good l) (table : Table
       λ q live e. let range = live-range c q live in let s = phase-in-slot c′ q (omega (arith, not-earlier)) in far (s .0) (s .1) (s .2 ∙ e) in
       let empty = other-slot-kept t c c′ slot n (table .table-long) here far ∙ table .rest-empty slot n h here was in
       row-with-speeds emptied anew slot n long each-placeable here (ap validRow empty ∙ empty-valid)
-      ∙ ap₂ (λ (x : Row) (s : List Row). joined x (boundsOf s)) empty (none-elsewhere c c′ slot n (recordsOfHeld (l .held)) (far c′ (current-live c′)))
+      ∙ ap₂ (λ (x : Row) (s : List Row). joined x (boundsOf s)) empty (none-elsewhere c′ (moves (l .now) time) slot n (recordsOfHeld (l .held)) (far c′ (current-live c′)))
       ∙ joined-same emptyRow
 
   pub stepped-table : TableMatches (stepped time l) (withSpeeds emptied anew)
@@ -242,7 +248,8 @@ module _ (l : Ledger) (t : List ℤ) (r : Report) (good : Good l) (table : Table
       λ a m. subst (GoodPlacement (l .now)) (sym (List·Memᴰ·eq-of-singleton m)) (good-placement (l .now) r ranged) in
       row-with-speeds t one (slotOf p) n (table .table-long) one-placeable here (table-valid l t good table (slotOf p) n (slot-on p) here)
       ∙ ap₂ (λ (x : Row) (s : List Row). joined x (boundsOf s)) (table .rows-are p live n here) (speeds-alike p n live here)
-      ∙ sym (bounds-append (speedsPlaced p (cellOfNumber n) (l .placements)) (speedsPlaced p (cellOfNumber n) (placement now r ∷ [])) (speeds-valid (l .now) p (cellOfNumber n) (placement now r ∷ []) one-good))
+      ∙ sym (bounds-append (speedsPlaced p (cellOfNumber n) (l .placements)) (speedsPlaced p (cellOfNumber n) (placement now r ∷ []))
+      (speeds-valid (l .now) p (cellOfNumber n) (placement now r ∷ []) one-good))
       ∙ sym (ap boundsOf (speeds-append p (cellOfNumber n) (l .placements) (placement now r ∷ [])))
 
   rest-placed : (slot n : ℕ) → slot < slots → n < cells → ((p : ℕ) → isLive now p ≡ true → slotOf p ≡ slot → ⊥) → rowAt (withSpeeds t one) slot n ≡ emptyRow

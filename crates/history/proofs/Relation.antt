@@ -1,5 +1,5 @@
--- How the index's words and the ledger stand to each other at every point of a list: the store holds the words of the held reports, and each
--- live phase's rows are the ledger's. What is kept of the ledger alone is `Good`.
+-- How the index's words and the ledger stand to each other at every point of a list: the time and the records that are read from the words are those
+-- of the ledger and its held reports, and each live phase's rows are the ledger's. What is kept of the ledger alone is `Good`.
 -- Assumes nothing.
 use mathlib.Core.Path.{_≡_}
 use mathlib.Core.Bool.{Bool, true, _&&_, not}
@@ -16,11 +16,11 @@ use Rattle.grid.specs.Reports.{isTime, isSpeed, inRange}
 use Rattle.rows.specs.Row.{emptyRow}
 use Rattle.rows.specs.Phases.{phaseOf, isLive, slotOf, slots}
 use Rattle.rows.specs.Table.{tableWords, rowAt}
-use Rattle.records.specs.Records.{storeOf}
+use Rattle.records.specs.Words.{Words, timeIn, recordsIn}
+use Rattle.words.specs.Needs.{CanChange}
 use Rattle.store.specs.Changes.{inserted, placedIn}
 use Rattle.records.specs.declared.Record.{Record}
 use Rattle.ledger.specs.Machine.{Ledger, Held, Placement, placement, isHeld, rowsIn}
-use Rattle.history.specs.Index.{Words}
 
 -- the records of the held reports, sorted
 abbrev pub recordOf : Held → Record
@@ -55,8 +55,19 @@ pub record Good (l : Ledger) : Type 0 where
   pub holds : (h : Held) → List·Memᴰ h (l .held) → GoodHeld (l .now) (l .placements) h
   pub places : (a : Placement) → List·Memᴰ a (l .placements) → GoodPlacement (l .now) a
 
+-- the rows of the live phases are the ledger's, and any other row is empty
+pub record TableMatches (l : Ledger) (t : List ℤ) : Type 0 where
+  pub table-long : length t ≡ tableWords
+  pub rows-are : (p : ℕ) → isLive (phaseOf (l .now)) p ≡ true → (n : ℕ) → n < cells → rowAt t (slotOf p) n ≡ rowsIn l p (cellOfNumber n)
+  pub rest-empty : (slot n : ℕ) → slot < slots → n < cells → ((p : ℕ) → isLive (phaseOf (l .now)) p ≡ true → slotOf p ≡ slot → ⊥) → rowAt t slot n ≡ emptyRow
+
 pub record Matches (l : Ledger) (w : Words) : Type 0 where
-  pub store-is : w .store ≡ storeOf (l .now) (recordsOfHeld (l .held))
-  pub table-long : length (w .table) ≡ tableWords
-  pub rows-are : (p : ℕ) → isLive (phaseOf (l .now)) p ≡ true → (n : ℕ) → n < cells → rowAt (w .table) (slotOf p) n ≡ rowsIn l p (cellOfNumber n)
-  pub rest-empty : (slot n : ℕ) → slot < slots → n < cells → ((p : ℕ) → isLive (phaseOf (l .now)) p ≡ true → slotOf p ≡ slot → ⊥) → rowAt (w .table) slot n ≡ emptyRow
+  pub can-change : CanChange w
+  pub time-is : timeIn w ≡ l .now
+  pub records-are : recordsIn w ≡ recordsOfHeld (l .held)
+  pub table : TableMatches l (w .table)
+
+-- a good ledger and words that match it
+pub record Left (l : Ledger) (w : Words) : Type 0 where
+  pub good : Good l
+  pub matches : Matches l w

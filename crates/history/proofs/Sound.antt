@@ -1,61 +1,37 @@
--- Words that match a good ledger are sound: what is read from them is the ledger's, and no call is refused for their lengths or soundness.
+-- Words that match a good ledger are sound: each float's speeds are in its row.
 -- Assumes nothing.
-use mathlib.Core.Path.{_≡_, refl, ap, _∙_}
-use mathlib.Core.Bool.{Bool, true, false, _&&_, not}
+use mathlib.Core.Path.{_≡_, refl, ap, ap₂, _∙_}
+use mathlib.Core.Bool.{Bool, true, _&&_}
 use mathlib.Core.List.{List, [], _∷_, List·Memᴰ, List·Memᴰ·head, List·Memᴰ·tail}
-use Prim.Native.Nat.{_≤_}
-use native.Mathlib.Omega.{arith}
-use lib.IntN.{ℤ}
 use lib.ListN.{length}
-use borrow.Author.Tests.{eq-eqb}
-use Rattle.grid.specs.Units.{capacity}
 use Rattle.grid.specs.Places.{OnGrid}
 use Rattle.grid.specs.Curve.{curveNumber}
-use Rattle.grid.specs.Reports.{xAt, yAt}
+use Rattle.grid.specs.Reports.{isTime, xAt, yAt}
 use Rattle.grid.specs.declared.Cell.{Cell}
 use Rattle.grid.proofs.Places.{cell-on}
 use Rattle.grid.proofs.Curve.{number-below, cell-of-its-number}
 use Rattle.rows.specs.Row.{holds}
 use Rattle.rows.specs.Phases.{referenceTime}
-use Rattle.rows.specs.Table.{tableWords, rowAt}
+use Rattle.rows.specs.Table.{rowAt}
 use Rattle.rows.specs.declared.Row.{Row}
 use Rattle.rows.proofs.RowLaws.{holds-one, holds-within, bounds-hold}
 use Rattle.rows.proofs.TableLaws.{valid-of-rows}
-use Rattle.records.specs.Records.{storeWords, nowOf, recordsOf, storeOf}
 use Rattle.records.specs.Order.{keyIn, slotOfKey, numberOfKey}
-use Rattle.records.specs.Soundness.{speedsInRows, isSound}
+use Rattle.records.specs.Soundness.{allSound, idsDistinct, speedsInRows}
+use Rattle.records.specs.Words.{Words, recordsIn, areSound}
 use Rattle.records.specs.declared.Record.{Record}
-use Rattle.records.proofs.RecordLaws.{now-of-store, records-of-store, store-length}
 use Rattle.records.proofs.SoundLawsKeys.{slot-of-key-in, number-of-key-in}
-use Rattle.store.proofs.OrderLaws.{ascending-sorted, inserted-passes}
-use Rattle.records.proofs.SoundLaws.{parts-sound}
+use Rattle.store.proofs.OrderLaws.{inserted-passes}
+use Rattle.words.proofs.PlaceLaws.{sound-words}
 use Rattle.ledger.specs.Machine.{Ledger, Held, placeIn, speedsPlaced, rowsIn}
 use Rattle.ledger.proofs.MachineLaws.{speed-placed}
-use Rattle.engine.specs.Index.{wrongLength, unsound}
-use Rattle.history.specs.Index.{Words}
 use Rattle.history.proofs.Relation.{recordOf, recordsOfHeld, GoodHeld, Good, Matches}
-use Rattle.history.proofs.HeldRecords.{records-length, records-ascending, records-distinct, records-sound}
-use Rattle.history.proofs.PlacedRows.{TableMatches, table-valid}
+use Rattle.history.proofs.HeldRecords.{records-length, records-distinct, records-sound}
+use Rattle.history.proofs.PlacedRows.{table-valid}
 
 module _ (l : Ledger) (w : Words) (good : Good l) (match : Matches l w) where
-  pub now-is : nowOf (w .store) ≡ l .now
-  now-is = ap nowOf (match .store-is) ∙ now-of-store (l .now) (recordsOfHeld (l .held))
-
-  pub records-are : recordsOf (w .store) ≡ recordsOfHeld (l .held)
-  records-are = ap recordsOf (match .store-is) ∙ records-of-store (l .now) (recordsOfHeld (l .held))
-
-  pub count-is : length (recordsOf (w .store)) ≡ length (l .held)
-  count-is = ap length records-are ∙ records-length (l .held)
-
-  few : length (recordsOfHeld (l .held)) ≤ capacity
-  few = omega (arith, good .few, records-length (l .held))
-
-  pub store-long : length (w .store) ≡ storeWords
-  store-long = ap length (match .store-is) ∙ store-length (l .now) (recordsOfHeld (l .held)) few
-
-  pub table-matches : TableMatches l (w .table)
-  table-matches =
-      record { table-long = match .table-long; rows-are = match .rows-are; rest-empty = match .rest-empty }
+  pub count-is : length (recordsIn w) ≡ length (l .held)
+  count-is = ap length (match .records-are) ∙ records-length (l .held)
 
   -- whether the speeds of a record are in its row
   abbrev inOwnRow : Record → Bool
@@ -71,7 +47,7 @@ module _ (l : Ledger) (w : Words) (good : Good l) (match : Matches l w) where
       let own : OnGrid cell = cell-on (xAt r (referenceTime p)) (yAt r (referenceTime p)) in
       let row : rowAt (w .table) (slotOfKey (keyIn p r)) (numberOfKey (keyIn p r)) ≡ rowsIn l p cell =
       (λ i. rowAt (w .table) (slot-of-key-in p r i) (number-of-key-in p r i))
-      ∙ match .rows-are p (g .live) (curveNumber cell) (number-below cell own)
+      ∙ match .table .rows-are p (g .live) (curveNumber cell) (number-below cell own)
       ∙ ap (rowsIn l p) (cell-of-its-number cell own) in
       ap (λ (x : Row). holds x (r .vx) (r .vy)) row
       ∙ holds-within (bounds-hold (speedsPlaced p cell (l .placements)) (speed-placed (l .placements) (g .placed))) (r .vx) (r .vy) (holds-one (r .vx) (r .vy))
@@ -88,26 +64,12 @@ module _ (l : Ledger) (w : Words) (good : Good l) (match : Matches l w) where
       (speeds-held h (each h (List·Memᴰ·head refl)))
       (all-held hs (λ g m. each g (List·Memᴰ·tail m)))
 
-  pub matching-sound : isSound (w .store) (w .table) ≡ true
+  pub matching-sound : areSound w ≡ true
   matching-sound =
-      let rs = recordsOfHeld (l .held) in
-      ap (λ (s : List ℤ). isSound s (w .table)) (match .store-is)
-      ∙ parts-sound (l .now) rs (w .table) few (good .time)
-      (records-sound (l .now) (l .placements) (l .held) (good .holds))
-      (ascending-sorted rs (records-ascending (l .held) (good .once)))
-      (records-distinct (l .held) (good .once))
-      (match .table-long)
-      (valid-of-rows (w .table) (table-valid l (w .table) good table-matches))
-      (all-held (l .held) (good .holds))
-
-  -- refusals 1 and 2 never come up
-  pub no-wrong-length : wrongLength (w .store) (w .table) ≡ false
-  no-wrong-length =
-      rw (eq-eqb (length (w .store)) storeWords store-long, eq-eqb (length (w .table)) tableWords (match .table-long))
-
-  pub no-unsound : unsound (w .store) (w .table) ≡ false
-  no-unsound = ap not matching-sound
-
-pub matches-of : (l : Ledger) (w : Words) → w .store ≡ storeOf (l .now) (recordsOfHeld (l .held)) → TableMatches l (w .table) → Matches l w
-matches-of l w store table =
-    record { store-is = store; table-long = table .table-long; rows-are = table .rows-are; rest-empty = table .rest-empty }
+      let hs = l .held in
+      sound-words w (match .can-change)
+      (ap isTime (match .time-is) ∙ good .time)
+      (ap₂ allSound (match .time-is) (match .records-are) ∙ records-sound (l .now) (l .placements) hs (good .holds))
+      (ap idsDistinct (match .records-are) ∙ records-distinct hs (good .once))
+      (valid-of-rows (w .table) (table-valid l (w .table) good (match .table)))
+      (ap (speedsInRows (w .table)) (match .records-are) ∙ all-held hs (good .holds))

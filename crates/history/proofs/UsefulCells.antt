@@ -1,47 +1,46 @@
 -- Useful cells on the ledger: every listed float's cell is in every method's choice, so the useful ones among the chosen cells are the cells of the
 -- listed floats, whatever the method.
 -- Assumes nothing.
-use mathlib.Core.Path.{_≡_, refl, sym, ap, ap₂, _∙_, subst}
+use mathlib.Core.Path.{_≡_, refl, sym, ap, _∙_, subst}
 use mathlib.Core.Bool.{Bool, true, _&&_, _||_, cond}
 use mathlib.Core.List.{List, [], _∷_, List·Memᴰ, Memᴰ·cast}
 use Prim.Native.Nat.{ℕ, _+_}
 use lib.Dec.{eqb}
-use lib.IntN.{ℤ, _-ℤ_}
 use borrow.Author.Tests.{eqb-true, eq-eqb}
 use Rattle.ints.proofs.Truth.{and-true, and-left, and-right}
 use Rattle.ints.proofs.Members.{passing, passing-in, passing-has, some, some-passes, passes-some}
 use Rattle.ints.proofs.Marks.{bit, counted}
 use Rattle.grid.specs.Units.{cells}
-use Rattle.grid.specs.Places.{positionAfter}
 use Rattle.grid.specs.Curve.{cellOfNumber}
-use Rattle.grid.specs.Reports.{xAt, yAt, inRect, isListed}
+use Rattle.grid.specs.Reports.{isListed}
 use Rattle.grid.specs.declared.Cell.{Cell}
-use Rattle.grid.specs.declared.Rect.{Rect}
+use Rattle.grid.specs.declared.Query.{Query}
 use Rattle.grid.proofs.Curve.{cell-of-its-number}
-use Rattle.grid.proofs.MotionLaws.{x-moved, y-moved}
 use Rattle.rows.specs.Row.{holds}
-use Rattle.rows.specs.Phases.{phaseOf, referenceTime, sinceReference, isLive}
+use Rattle.rows.specs.Phases.{phaseOf, isLive}
 use Rattle.rows.proofs.RowLaws.{holds-within, holds-one, bounds-valid, bounds-hold}
-use Rattle.methods.specs.Claims.{Asked}
-use Rattle.methods.proofs.Claims.{no-float-is-missed, choice-once}
+use Rattle.methods.specs.Aims.{aimIn}
+use Rattle.methods.specs.Fair.{InOrder}
+use Rattle.methods.specs.Claims.{ValidRows}
+use Rattle.methods.proofs.Claims.{listed-is-read, choice-once}
 use Rattle.methods.proofs.ChoiceLaws.{choice-on}
 use Rattle.methods.proofs.SetLaws.{countedCells, cells-counted}
 use Rattle.ledger.specs.Machine.{Ledger, Held, placeIn, speedsPlaced, rowsIn, choiceIn, listedHeld, isUseful, usefulCells}
 use Rattle.ledger.proofs.MachineLaws.{speed-placed}
-use Rattle.engine.proofs.AskLaws.{FitAsk, asked-in}
+use Rattle.asking.proofs.AskLaws.{FitAsk, fit-in-order}
 use Rattle.history.proofs.Relation.{Good}
 use Rattle.history.proofs.PlacedRows.{speeds-valid}
 
 -- ---- listed held reports and useful cells, by membership
 
-abbrev pub isListedHeld : Rect → ℤ → Held → Bool
-isListedHeld q asked h = isListed q asked (h .report)
+abbrev pub isListedHeld : Query → Held → Bool
+isListedHeld query h = isListed query (h .report)
 
-listed-held-is : (q : Rect) (asked : ℤ) (hs : List Held) → listedHeld q asked hs ≡ passing (isListedHeld q asked) hs
+listed-held-is : (query : Query) (hs : List Held) → listedHeld query hs ≡ passing (isListedHeld query) hs
 unfolding listedHeld passing
-listed-held-is q asked [] = refl
-listed-held-is q asked (h ∷ hs) =
-    ap (λ (more : List Held). cond (isListedHeld q asked h) (h ∷ more) more) (listed-held-is q asked hs)
+listed-held-is query [] = refl
+listed-held-is query (h ∷ hs) =
+    ap (λ (more : List Held). cond (isListedHeld query h) (h ∷ more) more) (listed-held-is query hs)
 
 abbrev isThere : ℕ → Cell → Held → Bool
 isThere p c h =
@@ -59,11 +58,12 @@ useful-cells-are p hs [] = refl
 useful-cells-are p hs (c ∷ cs) = ap (λ (more : ℕ). bit (isUseful p c hs) + more) (useful-cells-are p hs cs)
 
 -- a cell is useful exactly where a listed float is placed in it
-pub useful-from : (q : Rect) (asked : ℤ) (p : ℕ) (c : Cell) (hs : List Held) → isUseful p c (listedHeld q asked hs) ≡ true → (h : Held) × List·Memᴰ h hs × (isListedHeld q asked h ≡ true) × (h .phase ≡ p) × (placeIn p (h .report) ≡ c)
-useful-from q asked p c hs u =
-    let a = some-passes (isThere p c) (listedHeld q asked hs) (sym (useful-among p c (listedHeld q asked hs)) ∙ u) in
+pub useful-from : (query : Query) (p : ℕ) (c : Cell) (hs : List Held) → isUseful p c (listedHeld query hs) ≡ true
+    → (h : Held) × List·Memᴰ h hs × (isListedHeld query h ≡ true) × (h .phase ≡ p) × (placeIn p (h .report) ≡ c)
+useful-from query p c hs u =
+    let a = some-passes (isThere p c) (listedHeld query hs) (sym (useful-among p c (listedHeld query hs)) ∙ u) in
     let h = a .0 in
-    let b = passing-in (isListedHeld q asked) hs (subst (λ (l : List Held). List·Memᴰ h l) (listed-held-is q asked hs) (a .1)) in
+    let b = passing-in (isListedHeld query) hs (subst (λ (l : List Held). List·Memᴰ h l) (listed-held-is query hs) (a .1)) in
     let own = placeIn p (h .report) in
     let place = eqb (own .column) (c .column) && eqb (own .row) (c .row) in
     let there = and-right (eqb (h .phase) p) place (a .2) in
@@ -71,12 +71,13 @@ useful-from q asked p c hs u =
     let row = eqb-true (own .row) (c .row) (and-right (eqb (own .column) (c .column)) (eqb (own .row) (c .row)) there) in
     (h, b .0, b .1, eqb-true (h .phase) p (and-left (eqb (h .phase) p) place (a .2)), λ i. record { column = column i; row = row i })
 
-pub from-useful : (q : Rect) (asked : ℤ) (p : ℕ) (c : Cell) (hs : List Held) {h : Held} → List·Memᴰ h hs → isListedHeld q asked h ≡ true → h .phase ≡ p → placeIn p (h .report) ≡ c → isUseful p c (listedHeld q asked hs) ≡ true
-from-useful q asked p c hs {h} m listed e place =
+pub from-useful : (query : Query) (p : ℕ) (c : Cell) (hs : List Held) {h : Held} → List·Memᴰ h hs → isListedHeld query h ≡ true → h .phase ≡ p → placeIn p (h .report) ≡ c
+    → isUseful p c (listedHeld query hs) ≡ true
+from-useful query p c hs {h} m listed e place =
     let own = placeIn p (h .report) in
-    useful-among p c (listedHeld q asked hs)
-    ∙ passes-some (isThere p c) (listedHeld q asked hs) {a = h}
-    (rw (listed-held-is q asked hs) (passing-has (isListedHeld q asked) hs m listed))
+    useful-among p c (listedHeld query hs)
+    ∙ passes-some (isThere p c) (listedHeld query hs) {a = h}
+    (rw (listed-held-is query hs) (passing-has (isListedHeld query) hs m listed))
     (and-true (eqb (h .phase) p) (eqb (own .column) (c .column) && eqb (own .row) (c .row)) (eq-eqb (h .phase) p e)
     (and-true (eqb (own .column) (c .column)) (eqb (own .row) (c .row))
     (eq-eqb (own .column) (c .column) (ap (λ (k : Cell). k .column) place))
@@ -84,39 +85,37 @@ from-useful q asked p c hs {h} m listed e place =
 
 -- ---- choices by the ledger's rows
 
-module _ (l : Ledger) (good : Good l) (asked : ℤ) (q : Rect) (fit : FitAsk (l .now) asked q) where
-  pub asked-here : (p : ℕ) → isLive (phaseOf (l .now)) p ≡ true → Asked (rowsIn l p) q (sinceReference p asked)
+module _ (l : Ledger) (good : Good l) (query : Query) (fit : FitAsk (l .now) query) where
+  pub valid-here : (p : ℕ) → ValidRows (rowsIn l p)
   unfolding rowsIn
-  asked-here p live =
-      asked-in (l .now) asked q (good .time) fit p live (rowsIn l p)
-      (λ c on. bounds-valid (speedsPlaced p c (l .placements)) (speeds-valid (l .now) p c (l .placements) (good .places)))
+  valid-here p c on = bounds-valid (speedsPlaced p c (l .placements)) (speeds-valid (l .now) p c (l .placements) (good .places))
+
+  pub in-order-here : InOrder (query .rect)
+  in-order-here = fit-in-order (l .now) query fit
 
   -- the cell of a listed float is chosen
-  held-read : (method : ℕ) {h : Held} → List·Memᴰ h (l .held) → isListedHeld q asked h ≡ true → List·Memᴰ (placeIn (h .phase) (h .report)) (choiceIn l method asked q (h .phase) .cells)
-  unfolding rowsIn isListed
+  held-read : (method : ℕ) {h : Held} → List·Memᴰ h (l .held) → isListedHeld query h ≡ true → List·Memᴰ (placeIn (h .phase) (h .report)) (choiceIn l method query (h .phase) .cells)
+  unfolding rowsIn
   held-read method {h} m listed =
       let g = good .holds h m in
-      let p = h .phase in
-      let from = referenceTime p in
       let float = h .report in
-      let placed = placeIn p float in
-      let row : holds (rowsIn l p placed) (float .vx) (float .vy) ≡ true =
-      holds-within (bounds-hold (speedsPlaced p placed (l .placements)) (speed-placed (l .placements) (g .placed))) (float .vx) (float .vy) (holds-one (float .vx) (float .vy)) in
-      let there : inRect q (positionAfter (xAt float from) (float .vx) (asked -ℤ from)) (positionAfter (yAt float from) (float .vy) (asked -ℤ from)) ≡ true =
-      sym (ap₂ (inRect q) (x-moved float from asked) (y-moved float from asked)) ∙ listed in
-      no-float-is-missed (rowsIn l p) q (sinceReference p asked) (asked-here p (g .live)) (xAt float from) (yAt float from) (float .vx) (float .vy) row there method
+      let placed = placeIn (h .phase) float in
+      let row : holds (rowsIn l (h .phase) placed) (float .vx) (float .vy) ≡ true =
+      holds-within (bounds-hold (speedsPlaced (h .phase) placed (l .placements)) (speed-placed (l .placements) (g .placed))) (float .vx) (float .vy) (holds-one (float .vx) (float .vy)) in
+      listed-is-read (rowsIn l (h .phase)) (valid-here (h .phase)) (h .phase) query in-order-here float row listed method
 
   -- the useful ones among the chosen cells are the cells of the listed floats
-  pub useful-is : (method p : ℕ) → isLive (phaseOf (l .now)) p ≡ true → usefulCells p (listedHeld q asked (l .held)) (choiceIn l method asked q p .cells) ≡ counted (λ n. isUseful p (cellOfNumber n) (listedHeld q asked (l .held))) 0 cells
+  pub useful-is : (method p : ℕ) → isLive (phaseOf (l .now)) p ≡ true
+      → usefulCells p (listedHeld query (l .held)) (choiceIn l method query p .cells) ≡ counted (λ n. isUseful p (cellOfNumber n) (listedHeld query (l .held))) 0 cells
   useful-is method p live =
-      let listed = listedHeld q asked (l .held) in
-      let d = sinceReference p asked in
-      useful-cells-are p listed (choiceIn l method asked q p .cells)
+      let listed = listedHeld query (l .held) in
+      let aim = aimIn p query in
+      useful-cells-are p listed (choiceIn l method query p .cells)
       ∙ sym
-      (cells-counted (λ c. isUseful p c listed) (choice-once method (rowsIn l p) q d) (λ c m. choice-on method (rowsIn l p) q d m)
+      (cells-counted (λ c. isUseful p c listed) (choice-once method (rowsIn l p) aim) (λ c m. choice-on method (rowsIn l p) aim m)
       (λ n. isUseful p (cellOfNumber n) listed)
-      (λ c m. ap (λ (k : Cell). isUseful p k listed) (cell-of-its-number c (choice-on method (rowsIn l p) q d m)))
+      (λ c m. ap (λ (k : Cell). isUseful p k listed) (cell-of-its-number c (choice-on method (rowsIn l p) aim m)))
       (λ n h u.
-      let a = useful-from q asked p (cellOfNumber n) (l .held) u in
+      let a = useful-from query p (cellOfNumber n) (l .held) u in
       let float = a .0 .report in
-      Memᴰ·cast (sym (a .4)) (subst (λ (k : ℕ). List·Memᴰ (placeIn k float) (choiceIn l method asked q k .cells)) (a .3) (held-read method (a .1) (a .2)))))
+      Memᴰ·cast (sym (a .4)) (subst (λ (k : ℕ). List·Memᴰ (placeIn k float) (choiceIn l method query k .cells)) (a .3) (held-read method (a .1) (a .2)))))

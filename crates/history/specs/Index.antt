@@ -1,76 +1,52 @@
--- The index as a machine over its lent words: each call is lent the store and the table as the call before left them, and an ask is lent any
--- answer list besides.
+-- The index as a machine over its lent words: each call is lent the words as the call before left them, and any answer list besides, which only
+-- an ask touches.
 -- Assumes nothing.
-use mathlib.Core.Bool.{cond}
-use mathlib.Core.List.{List, [], _∷_}
+use mathlib.Core.List.{List, [], _∷_, map}
 use Prim.Native.Nat.{ℕ}
 use lib.IntN.{ℤ}
 use lib.ListN.{length, take}
-use Rattle.grid.specs.declared.Rect.{Rect}
-use Rattle.grid.specs.declared.Report.{Report}
-use Rattle.ledger.specs.Answers.{valueOf, isAccepted}
-use Rattle.ledger.specs.Calls as Ledger
-use Rattle.ledger.specs.Calls.{Call, Reply}
-use Rattle.engine.specs.Index.{Outcome, AskOutcome, openOut, clockOut, addOut, reportOut, dropOut, askOut}
+use Rattle.records.specs.Words.{Words}
+use Rattle.ledger.specs.Calls.{Fed, Reply}
+use Rattle.ledger.specs.declared.Answer.{Answer}
+use Rattle.ledger.specs.declared.Answer.the-variants.{Accepted, Listed, Refused}
+use Rattle.ledger.specs.declared.Call.{Call}
+use Rattle.engine.specs.Index.{CallOutcome, openOut, callOut}
 
-pub record Words : Type 0 where
-  pub store : List ℤ
-  pub table : List ℤ
+-- a call to the index, with the list that it is lent
+pub record LentCall : Type 0 where
+  pub call : Call
+  pub list : List ℕ
 
--- a call to the index: as the ledger's, and an ask with the list that it is lent
-pub data LentCall : Type 0 where
-  clock : ℤ → LentCall
-  add : Report → LentCall
-  report : Report → LentCall
-  drop : ℤ → ℤ → LentCall
-  ask : ℤ → ℤ → Rect → List ℕ → LentCall
+-- what the ledger is fed of it: the call, and of its list the length alone
+abbrev pub fed : LentCall → Fed
+fed lent = record { call = lent .call; room = length (lent .list) }
 
--- what the ledger is fed of it: the name and the numbers, and of an ask's list its length alone
-abbrev pub fed : LentCall → Call
-fed (clock t) = Ledger.clock t
-fed (add r) = Ledger.add r
-fed (report r) = Ledger.report r
-fed (drop id t) = Ledger.drop id t
-fed (ask method asked q list) = Ledger.ask method asked q (length list)
-
-unfoldable pub fedAll : List LentCall → List Call
-fedAll [] = []
-fedAll (call ∷ calls) = fed call ∷ fedAll calls
-
-abbrev pub replyOf : Outcome → Reply
-replyOf o = record { answer = o .answer; ids = [] }
-
-abbrev pub wordsOf : Outcome → Words
-wordsOf o = record { store = o .store; table = o .table }
+abbrev pub fedAll : List LentCall → List Fed
+fedAll = map fed
 
 -- the ids of an accepted ask are those written in front of the list
-abbrev pub replyOfAsk : AskOutcome → Reply
-replyOfAsk o =
-    record { answer = o .answer; ids = cond (isAccepted (o .answer)) (take (valueOf (o .answer)) (o .list)) [] }
+abbrev pub idsWritten : Answer → List ℕ → List ℕ
+idsWritten (Accepted held) list = []
+idsWritten (Listed ids cells useful rounds) list = take ids list
+idsWritten (Refused r) list = []
 
-unfoldable pub replyTo : Words → LentCall → Reply
-replyTo w (clock t) = replyOf (clockOut (w .store) (w .table) t)
-replyTo w (add r) = replyOf (addOut (w .store) (w .table) r)
-replyTo w (report r) = replyOf (reportOut (w .store) (w .table) r)
-replyTo w (drop id t) = replyOf (dropOut (w .store) (w .table) id t)
-replyTo w (ask method asked q list) = replyOfAsk (askOut (w .store) (w .table) method asked q list)
+abbrev pub replyOf : CallOutcome → Reply
+replyOf o = record { answer = o .answer; ids = idsWritten (o .answer) (o .list) }
 
--- an ask leaves store and table
-unfoldable pub next : Words → LentCall → Words
-next w (clock t) = wordsOf (clockOut (w .store) (w .table) t)
-next w (add r) = wordsOf (addOut (w .store) (w .table) r)
-next w (report r) = wordsOf (reportOut (w .store) (w .table) r)
-next w (drop id t) = wordsOf (dropOut (w .store) (w .table) id t)
-next w (ask method asked q list) = w
+abbrev pub replyTo : Words → LentCall → Reply
+replyTo w lent = replyOf (callOut w (lent .call) (lent .list))
+
+abbrev pub next : Words → LentCall → Words
+next w lent = callOut w (lent .call) (lent .list) .words
 
 unfoldable pub replies : Words → List LentCall → List Reply
 replies w [] = []
-replies w (call ∷ calls) = replyTo w call ∷ replies (next w call) calls
+replies w (lent ∷ more) = replyTo w lent ∷ replies (next w lent) more
 
 unfoldable pub after : Words → List LentCall → Words
 after w [] = w
-after w (call ∷ calls) = after (next w call) calls
+after w (lent ∷ more) = after (next w lent) more
 
 -- the words that an open leaves
-abbrev pub openedWords : List ℤ → List ℤ → ℤ → Words
-openedWords s t time = wordsOf (openOut s t time)
+abbrev pub openedWords : Words → ℤ → Words
+openedWords w time = openOut w time .words

@@ -6,6 +6,7 @@ use lib.ListN.{replicate}
 use Rattle.grid.specs.Sightings.{Sighting}
 use Rattle.rows.specs.Table.{tableWords}
 use Rattle.records.specs.Records.{storeWords}
+use Rattle.records.specs.Words.{words}
 use Rattle.ledger.specs.Answers.{numberOf}
 use Rattle.engine.specs.Index.{openOut, clockOut}
 
@@ -18,8 +19,8 @@ wholeTable = replicate tableWords (pos 0)
 
 unfoldable pub numbers : List Sighting
 numbers =
-    record { given = numberOf (openOut (wholeStore (negsuc 0)) wholeTable (pos 0) .answer); said = 0 }
-    ∷ record { given = numberOf (clockOut [] [] (pos 0) .answer); said = 1 }
-    ∷ record { given = numberOf (clockOut (wholeStore (negsuc 0)) wholeTable (pos 0) .answer); said = 2 }
-    ∷ record { given = numberOf (openOut (wholeStore (negsuc 0)) wholeTable (negsuc 0) .answer); said = 3 }
+    record { given = numberOf (openOut (words (wholeStore (negsuc 0)) wholeTable) (pos 0) .answer); said = 0 }
+    ∷ record { given = numberOf (clockOut (words [] []) (pos 0) .answer); said = 1 }
+    ∷ record { given = numberOf (clockOut (words (wholeStore (negsuc 0)) wholeTable) (pos 0) .answer); said = 2 }
+    ∷ record { given = numberOf (openOut (words (wholeStore (negsuc 0)) wholeTable) (negsuc 0) .answer); said = 3 }
     ∷ []

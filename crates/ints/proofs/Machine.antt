@@ -106,7 +106,8 @@ otherwise r s p q t e h = simp (sym e ∙ t, sym h)
 
 -- ---- tests in the code, of numbers in locals or fields
 
-pub and-taken : (w : Width) (a b c d : ℤ) → leZ (back w a) (back w b) ≡ true → mag a < 2 ^ hbits w → mag b < 2 ^ hbits w → mag c < 2 ^ hbits w → mag d < 2 ^ hbits w → leZ (back w c) (back w d) ≡ leZ a b && leZ c d
+pub and-taken : (w : Width) (a b c d : ℤ) → leZ (back w a) (back w b) ≡ true → mag a < 2 ^ hbits w → mag b < 2 ^ hbits w → mag c < 2 ^ hbits w → mag d < 2 ^ hbits w
+    → leZ (back w c) (back w d) ≡ leZ a b && leZ c d
 and-taken w a b c d e ha hb hc hd = simp (held w c hc, held w d hd, simp (held w a ha, held w b hb) at e)
 
 pub and-left : (w : Width) (a b : ℤ) (t : Bool) → leZ (back w a) (back w b) ≡ false → mag a < 2 ^ hbits w → mag b < 2 ^ hbits w → leZ (back w a) (back w b) ≡ leZ a b && t

@@ -2,8 +2,9 @@
 -- Assumes nothing.
 use mathlib.Core.Path.{_≡_, refl, sym, ap, ap₂, _∙_}
 use mathlib.Core.Bool.{Bool, true, false, _||_, cond}
-use mathlib.Core.List.{List, [], _∷_, map, List·Memᴰ, List·Memᴰ·head, List·Memᴰ·tail, List·Memᴰ·cases-cons, List·Memᴰ·not-nil}
+use mathlib.Core.List.{List, [], _∷_, _++_, map, List·Memᴰ, List·Memᴰ·head, List·Memᴰ·tail, List·Memᴰ·cases-cons, List·Memᴰ·not-nil}
 use mathlib.Core.Logic.{⊎-elim}
+unfoldable pub use Rattle.ints.specs.Lists.{passing}
 use Rattle.ints.proofs.Parts.{true-false}
 use Rattle.ints.proofs.Truth.{or-left, or-right}
 
@@ -23,11 +24,11 @@ map-in f [] m = absurd (List·Memᴰ·not-nil m)
 map-in f (a ∷ xs) m =
     ⊎-elim (λ p. (a, List·Memᴰ·head refl, p)) (λ k. let r = map-in f xs k in (r .0, List·Memᴰ·tail (r .1), r .2)) (List·Memᴰ·cases-cons m)
 
--- ---- the elements that pass
+pub map-append : {A B : Type 0} (f : A → B) (xs ys : List A) → map f (xs ++ ys) ≡ map f xs ++ map f ys
+map-append f [] ys = refl
+map-append {A} {B} f (x ∷ xs) ys = ap (λ (l : List B). f x ∷ l) (map-append f xs ys)
 
-unfoldable pub passing : {A : Type 0} → (A → Bool) → List A → List A
-passing f [] = []
-passing f (a ∷ xs) = cond (f a) (a ∷ passing f xs) (passing f xs)
+-- ---- the elements that pass
 
 pub passing-in : {A : Type 0} (f : A → Bool) (xs : List A) {a : A} → List·Memᴰ a (passing f xs) → List·Memᴰ a xs × (f a ≡ true)
 unfolding passing
@@ -55,6 +56,27 @@ passing-same f g [] h = refl
 passing-same {A} f g (a ∷ xs) h =
     let rest = passing-same f g xs (λ b m. h b (List·Memᴰ·tail m)) in
     ap₂ (λ (t : Bool) (more : List A). cond t (a ∷ more) more) (h a (List·Memᴰ·head refl)) rest
+
+pub passing-append : {A : Type 0} (f : A → Bool) (xs ys : List A) → passing f (xs ++ ys) ≡ passing f xs ++ passing f ys
+unfolding passing
+passing-append f [] ys = refl
+passing-append {A} f (x ∷ xs) ys = go (f x) (passing-append f xs ys)
+  where
+    go : (t : Bool) → passing f (xs ++ ys) ≡ passing f xs ++ passing f ys → cond t (x ∷ passing f (xs ++ ys)) (passing f (xs ++ ys)) ≡ cond t (x ∷ passing f xs) (passing f xs) ++ passing f ys
+    go true e = ap (λ (l : List A). x ∷ l) e
+    go false e = e
+
+-- where all pass, and where none does
+pub passing-all : {A : Type 0} (f : A → Bool) (xs : List A) → ((a : A) → List·Memᴰ a xs → f a ≡ true) → passing f xs ≡ xs
+unfolding passing
+passing-all f [] h = refl
+passing-all {A} f (x ∷ xs) h =
+    rw (h x (List·Memᴰ·head refl)) (ap (λ (l : List A). x ∷ l) (passing-all f xs (λ a m. h a (List·Memᴰ·tail m))))
+
+pub passing-none : {A : Type 0} (f : A → Bool) (xs : List A) → ((a : A) → List·Memᴰ a xs → f a ≡ false) → passing f xs ≡ []
+unfolding passing
+passing-none f [] h = refl
+passing-none f (x ∷ xs) h = rw (h x (List·Memᴰ·head refl)) (passing-none f xs (λ a m. h a (List·Memᴰ·tail m)))
 
 -- ---- whether one passes
 

@@ -8,27 +8,39 @@ use mathlib.Core.Logic.{⊎-elim}
 use Prim.Native.Nat.{ℕ, _≤_, _<_}
 use native.Mathlib.Omega.{arith}
 use lib.Dec.{eqb, ltb}
+use lib.IntN.{ℤ}
 use borrow.Author.Tests.{ltb-true}
 use Rattle.ints.proofs.Parts.{true-false}
 use Rattle.ints.proofs.Truth.{and-left, and-right}
 use Rattle.ledger.specs.Answers.{refusalNumber, numberOf, valueOf, noCounts, countsOf, isAccepted}
-use Rattle.ledger.specs.Refusals.{Check, unless, firstToFail, inNumberOrder}
+use Rattle.ledger.specs.Refusals.{Check, unless, firstToFail, inNumberOrder, changeChecks}
 use Rattle.ledger.specs.Machine.{Ledger}
-use Rattle.ledger.specs.Calls.{Call, clock, add, report, drop, ask, checksOf}
+use Rattle.ledger.specs.Calls.{checksOf}
 use Rattle.ledger.specs.Claims.{ChecksStandInOrder, FirstFails, FirstToFailIsGiven, LeastNumberIsGiven, RefusalIsPlain, RefusalsArePlain}
 use Rattle.ledger.specs.declared.Answer.{Answer}
 use Rattle.ledger.specs.declared.Answer.the-variants.{Accepted, Listed, Refused}
+use Rattle.ledger.specs.declared.Call.{Call}
+use Rattle.ledger.specs.declared.Call.the-variants as Call
+use Rattle.ledger.specs.declared.Change.{Change}
+use Rattle.ledger.specs.declared.Change.the-variants as Change
+use Rattle.ledger.specs.declared.Refusal.{Refusal}
+use Rattle.ledger.specs.declared.Verdict.{Verdict}
+use Rattle.ledger.specs.declared.Verdict.the-variants.{Passed, Failed}
 use Rattle.ledger.specs.declared.Refusal.the-variants.{WrongLength, Unsound, BadTime, BadNumber, AlreadyHeld, NotHeld, Full, ListTooShort}
 
 -- ---- number order
 
-calls-in-order : (l : Ledger) (call : Call) → inNumberOrder (checksOf l call) ≡ true
+changes-in-order : (now : ℤ) (c : Change) (isHeld : Bool) (held : ℕ) → inNumberOrder (changeChecks now c isHeld held) ≡ true
 unfolding inNumberOrder
-calls-in-order l (clock t) = refl
-calls-in-order l (add r) = refl
-calls-in-order l (report r) = refl
-calls-in-order l (drop id t) = refl
-calls-in-order l (ask method asked q room) = refl
+changes-in-order now (Change.Add r) isHeld held = refl
+changes-in-order now (Change.Report r) isHeld held = refl
+changes-in-order now (Change.Drop id t) isHeld held = refl
+
+calls-in-order : (l : Ledger) (call : Call) (room : ℕ) → inNumberOrder (checksOf l call room) ≡ true
+unfolding inNumberOrder
+calls-in-order l (Call.Clock t) room = refl
+calls-in-order l (Call.Change c) room = changes-in-order (l .now) c _ _
+calls-in-order l (Call.Ask a) room = refl
 
 pub checks-stand-in-order : ChecksStandInOrder
 unfolding inNumberOrder
@@ -37,15 +49,15 @@ checks-stand-in-order = (λ t. refl, calls-in-order)
 -- ---- the first to fail
 
 first-given :
-    (before : List Check) (c : Check) (behind : List Check) (accepted : Answer)
+    (before : List Check) (c : Check) (behind : List Check)
     → ((b : Check) → List·Memᴰ b before → b .fails ≡ false)
     → c .fails ≡ true
-    → firstToFail (before ++ c ∷ behind) accepted ≡ Refused (c .refusal)
+    → firstToFail (before ++ c ∷ behind) ≡ Failed (c .refusal)
 unfolding firstToFail
-first-given [] c behind accepted passed failed = ap (λ (t : Bool). unless t (c .refusal) (firstToFail behind accepted)) failed
-first-given (b ∷ before) c behind accepted passed failed =
-    ap (λ (t : Bool). unless t (b .refusal) (firstToFail (before ++ c ∷ behind) accepted)) (passed b (List·Memᴰ·head refl))
-    ∙ first-given before c behind accepted (λ d m. passed d (List·Memᴰ·tail m)) failed
+first-given [] c behind passed failed = ap (λ (t : Bool). unless t (c .refusal) (firstToFail behind)) failed
+first-given (b ∷ before) c behind passed failed =
+    ap (λ (t : Bool). unless t (b .refusal) (firstToFail (before ++ c ∷ behind))) (passed b (List·Memᴰ·head refl))
+    ∙ first-given before c behind (λ d m. passed d (List·Memᴰ·tail m)) failed
 
 -- one more check that passes stands before it
 first-later : {c : Check} {cs : List Check} (b : Check) → b .fails ≡ false → FirstFails c cs → FirstFails c (b ∷ cs)
@@ -57,24 +69,33 @@ first-later b e f = record {
   failed = f .failed;
 }
 
-number-from : (cs : List Check) (accepted : Answer) (n : ℕ) → (numberOf accepted ≡ n → ⊥) → numberOf (firstToFail cs accepted) ≡ n → (c : Check) × FirstFails c cs × (refusalNumber (c .refusal) ≡ n)
-unfolding firstToFail
-number-from [] accepted n other e = absurd (other e)
-number-from (c ∷ cs) accepted n other e = go (c .fails) refl (number-from cs accepted n other) e
+-- a verdict told apart: the refusals of two that fail, and one that fails from one that passes
+refusalIn : Verdict → Refusal → Refusal
+refusalIn Passed other = other
+refusalIn (Failed r) other = r
+
+hasFailed : Verdict → Bool
+hasFailed Passed = false
+hasFailed (Failed r) = true
+
+first-from : (cs : List Check) (r : Refusal) → firstToFail cs ≡ Failed r → (c : Check) × FirstFails c cs × (c .refusal ≡ r)
+unfolding firstToFail refusalIn hasFailed
+first-from [] r e = absurd (true-false (sym (ap hasFailed e)))
+first-from (c ∷ cs) r e = go (c .fails) refl (first-from cs r) e
   where
     go :
         (t : Bool)
         → c .fails ≡ t
-        → (numberOf (firstToFail cs accepted) ≡ n → (d : Check) × FirstFails d cs × (refusalNumber (d .refusal) ≡ n))
-        → numberOf (unless t (c .refusal) (firstToFail cs accepted)) ≡ n → (d : Check) × FirstFails d (c ∷ cs) × (refusalNumber (d .refusal) ≡ n)
+        → (firstToFail cs ≡ Failed r → (d : Check) × FirstFails d cs × (d .refusal ≡ r))
+        → unless t (c .refusal) (firstToFail cs) ≡ Failed r → (d : Check) × FirstFails d (c ∷ cs) × (d .refusal ≡ r)
     go true f later k =
-        (c, record { before = []; behind = cs; checks-are = refl; passed = λ b m. absurd (List·Memᴰ·not-nil m); failed = f }, k)
+        (c, record { before = []; behind = cs; checks-are = refl; passed = λ b m. absurd (List·Memᴰ·not-nil m); failed = f }, ap (λ (v : Verdict). refusalIn v r) k)
     go false f later k = let a = later k in (a .0, first-later c f (a .1), a .2)
 
 pub first-to-fail-is-given : FirstToFailIsGiven
-first-to-fail-is-given cs accepted = record {
-  given = λ c f. ap (λ (l : List Check). firstToFail l accepted) (f .checks-are) ∙ first-given (f .before) c (f .behind) accepted (f .passed) (f .failed);
-  only-then = number-from cs accepted;
+first-to-fail-is-given cs = record {
+  given = λ c f. ap firstToFail (f .checks-are) ∙ first-given (f .before) c (f .behind) (f .passed) (f .failed);
+  only-then = first-from cs;
 }
 
 -- ---- the least number
@@ -100,16 +121,22 @@ first-least c (b ∷ more) h d m =
 
 pub least-number-is-given : LeastNumberIsGiven
 unfolding firstToFail
-least-number-is-given [] accepted h d m f = absurd (List·Memᴰ·not-nil m)
-least-number-is-given (c ∷ cs) accepted h d m f =
-    go (c .fails) refl (λ k. least-number-is-given cs accepted (order-rest c cs h) d k f)
+least-number-is-given [] h d m f = absurd (List·Memᴰ·not-nil m)
+least-number-is-given (c ∷ cs) h d m f =
+    go (c .fails) refl (λ k. least-number-is-given cs (order-rest c cs h) d k f)
   where
-    go : (t : Bool) → c .fails ≡ t → (List·Memᴰ d cs → numberOf (firstToFail cs accepted) ≤ refusalNumber (d .refusal)) → numberOf (unless t (c .refusal) (firstToFail cs accepted)) ≤ refusalNumber (d .refusal)
-    go true e later =
-        ⊎-elim
-        (λ (same : d ≡ c). let k : refusalNumber (d .refusal) ≡ refusalNumber (c .refusal) = ap (λ (x : Check). refusalNumber (x .refusal)) same in omega arith)
-        (λ k. first-least c cs h d k)
-        (List·Memᴰ·cases-cons m)
+    Least : Verdict → Type 0
+    Least v = (r : Refusal) × (v ≡ Failed r) × (refusalNumber r ≤ refusalNumber (d .refusal))
+
+    go : (t : Bool) → c .fails ≡ t → (List·Memᴰ d cs → Least (firstToFail cs)) → Least (unless t (c .refusal) (firstToFail cs))
+    go true e later = (
+      c .refusal,
+      refl,
+      ⊎-elim
+          (λ (same : d ≡ c). let k : refusalNumber (d .refusal) ≡ refusalNumber (c .refusal) = ap (λ (x : Check). refusalNumber (x .refusal)) same in omega arith)
+          (λ k. first-least c cs h d k)
+          (List·Memᴰ·cases-cons m),
+    )
     go false e later =
         ⊎-elim (λ (same : d ≡ c). absurd (true-false (sym f ∙ ap (λ (x : Check). x .fails) same ∙ e))) later (List·Memᴰ·cases-cons m)
 

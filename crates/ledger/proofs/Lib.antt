@@ -2,4 +2,5 @@ pub mod Sightings
 pub mod MachineLaws
 pub mod OrderLaws
 pub mod SumLaws
+pub mod VerdictLaws
 pub mod Claims

@@ -8,50 +8,41 @@ use Prim.Native.Nat.{ℕ, suc, _≤_}
 use native.Mathlib.Omega.{arith}
 use lib.Dec.{eqb}
 use lib.IntN.{ℤ}
-use lib.ListN.{length}
+use lib.ListN.{length, length-map}
 use borrow.Author.Tests.{eqb-true, eq-eqb}
 use Rattle.ints.specs.Whole.{eqZ}
+use Rattle.ints.specs.Lists.{passing}
 use Rattle.ints.proofs.Parts.{true-false}
 use Rattle.ints.proofs.Truth.{and-true, and-left}
+use Rattle.ints.proofs.Members.{map-in, map-has, passing-in, passing-has}
 use Rattle.grid.specs.declared.Cell.{Cell}
 use Rattle.rows.specs.Row.{rowOfSpeed}
-use Rattle.rows.specs.Phases.{isLive}
+use Rattle.rows.specs.Phases.{phaseOf, isLive}
 use Rattle.rows.specs.declared.Row.{Row}
-use Rattle.ledger.specs.Machine.{Held, Placement, placement, steppedHeld, newPlacements, livePlacements, isHeld, without, speedsPlaced}
+use Rattle.ledger.specs.Machine.{Held, Placement, placement, stays, moves, steppedOne, steppedHeld, newPlacements, livePlacements, isHeld, without, speedsPlaced}
 
 -- ---- held reports after the clock step
 
-abbrev pub steppedOne : ℕ → Held → Held
-steppedOne c h = cond (isLive c (h .phase)) h (record { report = h .report; phase = c })
-
-pub same-report : (c : ℕ) (h : Held) → steppedOne c h .report ≡ h .report
-same-report c h = go (isLive c (h .phase))
+pub same-report : (time : ℤ) (h : Held) → steppedOne time h .report ≡ h .report
+same-report time h = go (stays time h)
   where
-    go : (t : Bool) → cond {A = Held} t h (record { report = h .report; phase = c }) .report ≡ h .report
+    go : (t : Bool) → cond {A = Held} t h (record { report = h .report; phase = phaseOf time }) .report ≡ h .report
     go true = refl
     go false = refl
 
-pub stepped-length : (c : ℕ) (hs : List Held) → length (steppedHeld c hs) ≡ length hs
+pub stepped-length : (time : ℤ) (hs : List Held) → length (steppedHeld time hs) ≡ length hs
 unfolding steppedHeld
-stepped-length c [] = refl
-stepped-length c (h ∷ hs) = ap suc (stepped-length c hs)
+stepped-length time hs = length-map hs (steppedOne time)
 
-pub stepped-held : (c : ℕ) (id : ℤ) (hs : List Held) → isHeld id (steppedHeld c hs) ≡ isHeld id hs
+pub stepped-held : (time : ℤ) (id : ℤ) (hs : List Held) → isHeld id (steppedHeld time hs) ≡ isHeld id hs
 unfolding steppedHeld isHeld
-stepped-held c id [] = refl
-stepped-held c id (h ∷ hs) = rw (same-report c h, stepped-held c id hs)
+stepped-held time id [] = refl
+stepped-held time id (h ∷ hs) = rw (same-report time h, stepped-held time id hs)
 
 -- each comes from one that was held
-pub stepped-from : {x : Held} (c : ℕ) (hs : List Held) → List·Memᴰ x (steppedHeld c hs) → (h : Held) × List·Memᴰ h hs × (x ≡ steppedOne c h)
+pub stepped-from : {x : Held} (time : ℤ) (hs : List Held) → List·Memᴰ x (steppedHeld time hs) → (h : Held) × List·Memᴰ h hs × (x ≡ steppedOne time h)
 unfolding steppedHeld
-stepped-from c [] m = absurd (List·Memᴰ·not-nil m)
-stepped-from {x} c (h ∷ hs) m = ⊎-elim first (λ k. rest (stepped-from c hs k)) (List·Memᴰ·cases-cons m)
-  where
-    first : x ≡ steppedOne c h → (g : Held) × List·Memᴰ g (h ∷ hs) × (x ≡ steppedOne c g)
-    first e = (h, List·Memᴰ·head refl, e)
-
-    rest : (g : Held) × List·Memᴰ g hs × (x ≡ steppedOne c g) → (g : Held) × List·Memᴰ g (h ∷ hs) × (x ≡ steppedOne c g)
-    rest t = (t .0, List·Memᴰ·tail (t .1), t .2)
+stepped-from time hs m = map-in (steppedOne time) hs m
 
 -- ---- held reports after a drop
 
@@ -91,7 +82,8 @@ without-held id other (g ∷ hs) n = go (eqZ (g .report .id) id) (without-held i
     rest true k = absurd (true-false k)
     rest false k = k
 
-    go : (t : Bool) → (isHeld other hs ≡ false → isHeld other (without id hs) ≡ false) → (u : Bool) → eqZ (g .report .id) other || isHeld other hs ≡ false → isHeld other (cond t hs (g ∷ without id hs)) ≡ false
+    go : (t : Bool) → (isHeld other hs ≡ false → isHeld other (without id hs) ≡ false) → (u : Bool) → eqZ (g .report .id) other || isHeld other hs ≡ false
+        → isHeld other (cond t hs (g ∷ without id hs)) ≡ false
     go true f u k = rest (eqZ (g .report .id) other) k
     go false f u k = both (eqZ (g .report .id) other) k
       where
@@ -101,64 +93,24 @@ without-held id other (g ∷ hs) n = go (eqZ (g .report .id) id) (without-held i
 
 -- ---- placements after the clock step
 
-pub live-from : {a : Placement} (c : ℕ) (ps : List Placement) → List·Memᴰ a (livePlacements c ps) → List·Memᴰ a ps × (isLive c (a .phase) ≡ true)
+pub live-from : {a : Placement} (time : ℤ) (ps : List Placement) → List·Memᴰ a (livePlacements time ps) → List·Memᴰ a ps × (isLive (phaseOf time) (a .phase) ≡ true)
 unfolding livePlacements
-live-from c [] m = absurd (List·Memᴰ·not-nil m)
-live-from {a} c (p ∷ ps) m = go (isLive c (p .phase)) refl (live-from c ps) m
-  where
-    more : List·Memᴰ a ps × (isLive c (a .phase) ≡ true) → List·Memᴰ a (p ∷ ps) × (isLive c (a .phase) ≡ true)
-    more t = (List·Memᴰ·tail (t .0), t .1)
+live-from time ps m = passing-in _ ps m
 
-    go : (t : Bool) → isLive c (p .phase) ≡ t → (List·Memᴰ a (livePlacements c ps) → List·Memᴰ a ps × (isLive c (a .phase) ≡ true)) → List·Memᴰ a (cond t (p ∷ livePlacements c ps) (livePlacements c ps)) → List·Memᴰ a (p ∷ ps) × (isLive c (a .phase) ≡ true)
-    go true e f k =
-        ⊎-elim
-        (λ same. (List·Memᴰ·head same, ap (λ (x : Placement). isLive c (x .phase)) same ∙ e))
-        (λ n. more (f n))
-        (List·Memᴰ·cases-cons k)
-    go false e f k = more (f k)
-
-pub live-stays : {a : Placement} (c : ℕ) (ps : List Placement) → List·Memᴰ a ps → isLive c (a .phase) ≡ true → List·Memᴰ a (livePlacements c ps)
+pub live-stays : {a : Placement} (time : ℤ) (ps : List Placement) → List·Memᴰ a ps → isLive (phaseOf time) (a .phase) ≡ true → List·Memᴰ a (livePlacements time ps)
 unfolding livePlacements
-live-stays c [] m e = absurd (List·Memᴰ·not-nil m)
-live-stays {a} c (p ∷ ps) m e =
-    ⊎-elim first (λ k. rest (isLive c (p .phase)) (live-stays c ps k e)) (List·Memᴰ·cases-cons m)
-  where
-    first : a ≡ p → List·Memᴰ a (cond (isLive c (p .phase)) (p ∷ livePlacements c ps) (livePlacements c ps))
-    first same = rw (sym (ap (λ (x : Placement). isLive c (x .phase)) same) ∙ e) (List·Memᴰ·head same)
+live-stays time ps m e = passing-has _ ps m e
 
-    rest : (t : Bool) → List·Memᴰ a (livePlacements c ps) → List·Memᴰ a (cond t (p ∷ livePlacements c ps) (livePlacements c ps))
-    rest true k = List·Memᴰ·tail k
-    rest false k = k
-
-pub new-from : {a : Placement} (c : ℕ) (hs : List Held) → List·Memᴰ a (newPlacements c hs) → (h : Held) × List·Memᴰ h hs × (a ≡ placement c (h .report))
+pub new-from : {a : Placement} (time : ℤ) (hs : List Held) → List·Memᴰ a (newPlacements time hs) → (h : Held) × List·Memᴰ h hs × (a ≡ placement (phaseOf time) (h .report))
 unfolding newPlacements
-new-from c [] m = absurd (List·Memᴰ·not-nil m)
-new-from {a} c (h ∷ hs) m = go (isLive c (h .phase)) (new-from c hs) m
-  where
-    more : (g : Held) × List·Memᴰ g hs × (a ≡ placement c (g .report)) → (g : Held) × List·Memᴰ g (h ∷ hs) × (a ≡ placement c (g .report))
-    more t = (t .0, List·Memᴰ·tail (t .1), t .2)
+new-from time hs m =
+    let from = map-in (λ h. placement (phaseOf time) (h .report)) (passing (moves time) hs) m in
+    (from .0, passing-in (moves time) hs (from .1) .0, from .2)
 
-    first : a ≡ placement c (h .report) → (g : Held) × List·Memᴰ g (h ∷ hs) × (a ≡ placement c (g .report))
-    first e = (h, List·Memᴰ·head refl, e)
-
-    go : (t : Bool) → (List·Memᴰ a (newPlacements c hs) → (g : Held) × List·Memᴰ g hs × (a ≡ placement c (g .report))) → List·Memᴰ a (cond t (newPlacements c hs) (placement c (h .report) ∷ newPlacements c hs)) → (g : Held) × List·Memᴰ g (h ∷ hs) × (a ≡ placement c (g .report))
-    go true f k = more (f k)
-    go false f k = ⊎-elim first (λ n. more (f n)) (List·Memᴰ·cases-cons k)
-
-pub new-placed : {h : Held} (c : ℕ) (hs : List Held) → List·Memᴰ h hs → isLive c (h .phase) ≡ false → List·Memᴰ (placement c (h .report)) (newPlacements c hs)
+pub new-placed : {h : Held} (time : ℤ) (hs : List Held) → List·Memᴰ h hs → moves time h ≡ true → List·Memᴰ (placement (phaseOf time) (h .report)) (newPlacements time hs)
 unfolding newPlacements
-new-placed c [] m e = absurd (List·Memᴰ·not-nil m)
-new-placed {h} c (g ∷ hs) m e =
-    ⊎-elim first (λ k. rest (isLive c (g .phase)) (new-placed c hs k e)) (List·Memᴰ·cases-cons m)
-  where
-    first : h ≡ g → List·Memᴰ (placement c (h .report)) (cond (isLive c (g .phase)) (newPlacements c hs) (placement c (g .report) ∷ newPlacements c hs))
-    first same =
-        rw (sym (ap (λ (x : Held). isLive c (x .phase)) same) ∙ e)
-        (List·Memᴰ·head (ap (λ (x : Held). placement c (x .report)) same))
-
-    rest : (t : Bool) → List·Memᴰ (placement c (h .report)) (newPlacements c hs) → List·Memᴰ (placement c (h .report)) (cond t (newPlacements c hs) (placement c (g .report) ∷ newPlacements c hs))
-    rest true k = k
-    rest false k = List·Memᴰ·tail k
+new-placed time hs m e =
+    map-has (λ h. placement (phaseOf time) (h .report)) (passing (moves time) hs) (passing-has (moves time) hs m e)
 
 -- ---- the speeds placed in a cell of a phase
 
@@ -173,24 +125,26 @@ speeds-append p c (a ∷ xs) ys = go (isThere p c a) (speeds-append p c xs ys)
     one : Row
     one = rowOfSpeed (a .vx) (a .vy)
 
-    go : (t : Bool) → speedsPlaced p c (xs ++ ys) ≡ speedsPlaced p c xs ++ speedsPlaced p c ys → cond t (one ∷ speedsPlaced p c (xs ++ ys)) (speedsPlaced p c (xs ++ ys)) ≡ cond t (one ∷ speedsPlaced p c xs) (speedsPlaced p c xs) ++ speedsPlaced p c ys
+    go : (t : Bool) → speedsPlaced p c (xs ++ ys) ≡ speedsPlaced p c xs ++ speedsPlaced p c ys
+        → cond t (one ∷ speedsPlaced p c (xs ++ ys)) (speedsPlaced p c (xs ++ ys)) ≡ cond t (one ∷ speedsPlaced p c xs) (speedsPlaced p c xs) ++ speedsPlaced p c ys
     go true e = ap (λ (l : List Row). one ∷ l) e
     go false e = e
 
 -- those of a phase that lives on stay
-pub speeds-live : (now p : ℕ) (c : Cell) (ps : List Placement) → isLive now p ≡ true → speedsPlaced p c (livePlacements now ps) ≡ speedsPlaced p c ps
-unfolding speedsPlaced livePlacements
-speeds-live now p c [] live = refl
-speeds-live now p c (a ∷ ps) live = go (isLive now (a .phase)) refl (isThere p c a) refl (speeds-live now p c ps live)
+pub speeds-live : (time : ℤ) (p : ℕ) (c : Cell) (ps : List Placement) → isLive (phaseOf time) p ≡ true → speedsPlaced p c (livePlacements time ps) ≡ speedsPlaced p c ps
+unfolding speedsPlaced livePlacements passing
+speeds-live time p c [] live = refl
+speeds-live time p c (a ∷ ps) live = go (isLive (phaseOf time) (a .phase)) refl (isThere p c a) refl (speeds-live time p c ps live)
   where
     one : Row
     one = rowOfSpeed (a .vx) (a .vy)
 
-    go : (t : Bool) → isLive now (a .phase) ≡ t → (u : Bool) → isThere p c a ≡ u → speedsPlaced p c (livePlacements now ps) ≡ speedsPlaced p c ps → speedsPlaced p c (cond t (a ∷ livePlacements now ps) (livePlacements now ps)) ≡ cond u (one ∷ speedsPlaced p c ps) (speedsPlaced p c ps)
+    go : (t : Bool) → isLive (phaseOf time) (a .phase) ≡ t → (u : Bool) → isThere p c a ≡ u → speedsPlaced p c (livePlacements time ps) ≡ speedsPlaced p c ps
+        → speedsPlaced p c (cond t (a ∷ livePlacements time ps) (livePlacements time ps)) ≡ cond u (one ∷ speedsPlaced p c ps) (speedsPlaced p c ps)
     go true e u f k = rw (f, k)
     go false e true f k =
         let same = eqb-true (a .phase) p (and-left (eqb (a .phase) p) _ f) in
-        absurd (true-false (sym live ∙ ap (isLive now) (sym same) ∙ e))
+        absurd (true-false (sym live ∙ ap (isLive (phaseOf time)) (sym same) ∙ e))
     go false e false f k = k
 
 -- a phase in which nothing is placed has none
@@ -216,7 +170,8 @@ speed-from {r} p c (a ∷ ps) m = go (isThere p c a) (speed-from p c ps) m
     first : r ≡ rowOfSpeed (a .vx) (a .vy) → (b : Placement) × List·Memᴰ b (a ∷ ps) × (r ≡ rowOfSpeed (b .vx) (b .vy))
     first e = (a, List·Memᴰ·head refl, e)
 
-    go : (t : Bool) → (List·Memᴰ r (speedsPlaced p c ps) → (b : Placement) × List·Memᴰ b ps × (r ≡ rowOfSpeed (b .vx) (b .vy))) → List·Memᴰ r (cond t (rowOfSpeed (a .vx) (a .vy) ∷ speedsPlaced p c ps) (speedsPlaced p c ps)) → (b : Placement) × List·Memᴰ b (a ∷ ps) × (r ≡ rowOfSpeed (b .vx) (b .vy))
+    go : (t : Bool) → (List·Memᴰ r (speedsPlaced p c ps) → (b : Placement) × List·Memᴰ b ps × (r ≡ rowOfSpeed (b .vx) (b .vy)))
+        → List·Memᴰ r (cond t (rowOfSpeed (a .vx) (a .vy) ∷ speedsPlaced p c ps) (speedsPlaced p c ps)) → (b : Placement) × List·Memᴰ b (a ∷ ps) × (r ≡ rowOfSpeed (b .vx) (b .vy))
     go true f k = ⊎-elim first (λ n. more (f n)) (List·Memᴰ·cases-cons k)
     go false f k = more (f k)
 
@@ -239,6 +194,7 @@ speed-placed {a} (b ∷ ps) m = ⊎-elim first (λ k. rest (isThere (a .phase) (
         rw (sym (ap (isThere (a .phase) (a .cell)) same) ∙ there)
         (List·Memᴰ·head (ap (λ (x : Placement). rowOfSpeed (x .vx) (x .vy)) same))
 
-    rest : (t : Bool) → List·Memᴰ (rowOfSpeed (a .vx) (a .vy)) (speedsPlaced (a .phase) (a .cell) ps) → List·Memᴰ (rowOfSpeed (a .vx) (a .vy)) (cond t (one ∷ speedsPlaced (a .phase) (a .cell) ps) (speedsPlaced (a .phase) (a .cell) ps))
+    rest : (t : Bool) → List·Memᴰ (rowOfSpeed (a .vx) (a .vy)) (speedsPlaced (a .phase) (a .cell) ps)
+        → List·Memᴰ (rowOfSpeed (a .vx) (a .vy)) (cond t (one ∷ speedsPlaced (a .phase) (a .cell) ps) (speedsPlaced (a .phase) (a .cell) ps))
     rest true k = List·Memᴰ·tail k
     rest false k = k

@@ -63,7 +63,8 @@ one-more {A} f a xs = go (f a)
     go false = omega arith
 
 -- of elements that each have a live phase, those that pass, phase by phase and all at once
-pub phases-summed : {A : Type 0} (phase : A → ℕ) (f : A → Bool) (c : ℕ) (xs : List A) → ((a : A) → List·Memᴰ a xs → isLive c (phase a) ≡ true) → summed (λ p. length (passing (λ a. eqb (phase a) p && f a) xs)) (livePhases c) ≡ length (passing f xs)
+pub phases-summed : {A : Type 0} (phase : A → ℕ) (f : A → Bool) (c : ℕ) (xs : List A) → ((a : A) → List·Memᴰ a xs → isLive c (phase a) ≡ true)
+    → summed (λ p. length (passing (λ a. eqb (phase a) p && f a) xs)) (livePhases c) ≡ length (passing f xs)
 unfolding passing
 phases-summed phase f c [] h = summed-none (livePhases c)
 phases-summed {A} phase f c (a ∷ xs) h =

@@ -1,112 +1,84 @@
 -- The ledger's calls after an open: what each answers and what it leaves. Document 01, "The plain ledger" and "What a call gives back when it
 -- declines", refusals from 3 on. The ledger is fed each call's name and numbers, and of an ask's answer list its length alone.
 -- Assumes nothing.
-use mathlib.Core.Bool.{cond, not}
+use mathlib.Core.Bool.{cond}
 use mathlib.Core.List.{List, [], _∷_}
 use Prim.Native.Nat.{ℕ}
-use lib.Dec.{leb, ltb}
 use lib.IntN.{ℤ}
 use lib.ListN.{length}
-use Rattle.ints.specs.Whole.{up}
-use Rattle.grid.specs.Units.{capacity}
-use Rattle.grid.specs.declared.Rect.{Rect}
-use Rattle.grid.specs.declared.Report.{Report}
 use Rattle.ledger.specs.Answers.{isAccepted}
-use Rattle.ledger.specs.Refusals.{Check, check, firstToFail, badTime, badStepTime, badAskTime, badReport, badId, badAsk}
-use Rattle.ledger.specs.Machine.{Ledger, stepped, isHeld, added, reported, dropped, idsListed, cellsRead, usefulRead, roundsTaken}
+use Rattle.ledger.specs.Refusals.{Check, check, firstToFail, badTime, clockChecks, timeOf, idOf, changeChecks, askChecks}
+use Rattle.ledger.specs.Machine.{Ledger, stepped, isHeld, changed, idsListed, cellsRead, usefulRead, roundsTaken}
 use Rattle.ledger.specs.declared.Answer.{Answer}
-use Rattle.ledger.specs.declared.Answer.the-variants.{Accepted, Listed}
-use Rattle.ledger.specs.declared.Refusal.the-variants.{BadTime, BadNumber, AlreadyHeld, NotHeld, Full, ListTooShort}
+use Rattle.ledger.specs.declared.Answer.the-variants.{Accepted, Listed, Refused}
+use Rattle.ledger.specs.declared.Call.{Call}
+use Rattle.ledger.specs.declared.Call.the-variants as Call
+use Rattle.ledger.specs.declared.Refusal.the-variants.{BadTime}
+use Rattle.ledger.specs.declared.Verdict.{Verdict}
+use Rattle.ledger.specs.declared.Verdict.the-variants.{Passed, Failed}
 
--- a call with its numbers; an ask with the length of its answer list
-pub data Call : Type 0 where
-  clock : ℤ → Call
-  add : Report → Call
-  report : Report → Call
-  drop : ℤ → ℤ → Call
-  ask : ℤ → ℤ → Rect → ℕ → Call
+-- what the ledger is fed: a call, and the length of the answer list that it is lent, which matters to an ask alone
+pub record Fed : Type 0 where
+  pub call : Call
+  pub room : ℕ
 
 -- what a call gives back: its answer, and the ids that it lists, in order
 pub record Reply : Type 0 where
   pub answer : Answer
   pub ids : List ℕ
 
--- ---- the checks of each call, in number order, and its answer where none fails
+-- the answer: a refusal by the first check to fail, else that of an accepted call
+abbrev pub answerBy : Verdict → Answer → Answer
+answerBy (Failed r) accepted = Refused r
+answerBy Passed accepted = accepted
+
+-- ---- the checks of each call, in number order, what it leaves where none fails, and its answer then
 
 abbrev pub openChecks : ℤ → List Check
 openChecks t = check (badTime t) BadTime ∷ []
 
 abbrev pub answerOfOpen : ℤ → Answer
-answerOfOpen t = firstToFail (openChecks t) (Accepted 0)
+answerOfOpen t = answerBy (firstToFail (openChecks t)) (Accepted 0)
 
-abbrev pub checksOf : Ledger → Call → List Check
-checksOf l (clock t) = check (badStepTime (l .now) t) BadTime ∷ []
-checksOf l (add r) =
-    check (badStepTime (l .now) (r .t)) BadTime
-    ∷ check (badReport r) BadNumber
-    ∷ check (isHeld (r .id) (l .held)) AlreadyHeld
-    ∷ check (leb capacity (length (l .held))) Full
-    ∷ []
-checksOf l (report r) =
-    check (badStepTime (l .now) (r .t)) BadTime
-    ∷ check (badReport r) BadNumber
-    ∷ check (not (isHeld (r .id) (l .held))) NotHeld
-    ∷ []
-checksOf l (drop id t) =
-    check (badStepTime (l .now) t) BadTime
-    ∷ check (badId id) BadNumber
-    ∷ check (not (isHeld id (l .held))) NotHeld
-    ∷ []
-checksOf l (ask method asked q room) =
-    let needed = length (idsListed l (up method) asked q) in
-    check (badAskTime (l .now) asked) BadTime
-    ∷ check (badAsk method q) BadNumber
-    ∷ check (ltb room needed) (ListTooShort needed)
-    ∷ []
+-- who is held is judged after the clock step
+abbrev pub checksOf : Ledger → Call → ℕ → List Check
+checksOf l (Call.Clock t) room = clockChecks (l .now) t
+checksOf l (Call.Change c) room =
+    let after = stepped (timeOf c) l .held in
+    changeChecks (l .now) c (isHeld (idOf c) after) (length after)
+checksOf l (Call.Ask a) room = askChecks (l .now) a room (length (idsListed l a))
+
+unfoldable pub changedBy : Ledger → Call → Ledger
+changedBy l (Call.Clock t) = stepped t l
+changedBy l (Call.Change c) = changed c (stepped (timeOf c) l)
+changedBy l (Call.Ask a) = l
 
 abbrev pub ifNoneFails : Ledger → Call → Answer
-ifNoneFails l (clock t) = Accepted (length (l .held))
-ifNoneFails l (add r) = Accepted (length (added r l .held))
-ifNoneFails l (report r) = Accepted (length (reported r l .held))
-ifNoneFails l (drop id t) = Accepted (length (dropped id t l .held))
-ifNoneFails l (ask method asked q room) =
-    let m = up method in
-    Listed
-    (length (idsListed l m asked q))
-    (cellsRead l m asked q)
-    (usefulRead l m asked q)
-    (roundsTaken l m asked q)
+ifNoneFails l (Call.Clock t) = Accepted (length (changedBy l (Call.Clock t) .held))
+ifNoneFails l (Call.Change c) = Accepted (length (changedBy l (Call.Change c) .held))
+ifNoneFails l (Call.Ask a) = Listed (length (idsListed l a)) (cellsRead l a) (usefulRead l a) (roundsTaken l a)
 
-unfoldable pub answerTo : Ledger → Call → Answer
-answerTo l call = firstToFail (checksOf l call) (ifNoneFails l call)
+unfoldable pub answerTo : Ledger → Fed → Answer
+answerTo l fed = answerBy (firstToFail (checksOf l (fed .call) (fed .room))) (ifNoneFails l (fed .call))
 
--- what an accepted call leaves
-unfoldable pub changedBy : Ledger → Call → Ledger
-changedBy l (clock t) = stepped t l
-changedBy l (add r) = added r l
-changedBy l (report r) = reported r l
-changedBy l (drop id t) = dropped id t l
-changedBy l (ask method asked q room) = l
-
+-- the ids that an accepted call lists
 unfoldable pub idsOf : Ledger → Call → List ℕ
-idsOf l (clock t) = []
-idsOf l (add r) = []
-idsOf l (report r) = []
-idsOf l (drop id t) = []
-idsOf l (ask method asked q room) = idsListed l (up method) asked q
+idsOf l (Call.Clock t) = []
+idsOf l (Call.Change c) = []
+idsOf l (Call.Ask a) = idsListed l a
 
 -- a refused call changes nothing, not even the time, and lists nothing
-unfoldable pub next : Ledger → Call → Ledger
-next l call = cond (isAccepted (answerTo l call)) (changedBy l call) l
+unfoldable pub next : Ledger → Fed → Ledger
+next l fed = cond (isAccepted (answerTo l fed)) (changedBy l (fed .call)) l
 
-unfoldable pub replyTo : Ledger → Call → Reply
-replyTo l call = record { answer = answerTo l call; ids = cond (isAccepted (answerTo l call)) (idsOf l call) [] }
+unfoldable pub replyTo : Ledger → Fed → Reply
+replyTo l fed = record { answer = answerTo l fed; ids = cond (isAccepted (answerTo l fed)) (idsOf l (fed .call)) [] }
 
 -- every reply to a list of calls, and the ledger after it
-unfoldable pub replies : Ledger → List Call → List Reply
+unfoldable pub replies : Ledger → List Fed → List Reply
 replies l [] = []
-replies l (call ∷ calls) = replyTo l call ∷ replies (next l call) calls
+replies l (fed ∷ more) = replyTo l fed ∷ replies (next l fed) more
 
-unfoldable pub after : Ledger → List Call → Ledger
+unfoldable pub after : Ledger → List Fed → Ledger
 after l [] = l
-after l (call ∷ calls) = after (next l call) calls
+after l (fed ∷ more) = after (next l fed) more

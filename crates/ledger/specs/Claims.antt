@@ -9,15 +9,17 @@ use lib.IntN.{ℤ}
 use Rattle.ledger.specs.Answers.{refusalNumber, numberOf, valueOf, noCounts, countsOf, isAccepted}
 use Rattle.ledger.specs.Refusals.{Check, firstToFail, inNumberOrder}
 use Rattle.ledger.specs.Machine.{Ledger}
-use Rattle.ledger.specs.Calls.{Call, openChecks, checksOf}
+use Rattle.ledger.specs.Calls.{openChecks, checksOf}
 use Rattle.ledger.specs.declared.Answer.{Answer}
-use Rattle.ledger.specs.declared.Answer.the-variants.{Refused}
+use Rattle.ledger.specs.declared.Call.{Call}
+use Rattle.ledger.specs.declared.Refusal.{Refusal}
+use Rattle.ledger.specs.declared.Verdict.the-variants.{Failed}
 
 -- checks run in number order (S15): those of open and of each later call stand in it
 abbrev pub ChecksStandInOrder : Type 0
 ChecksStandInOrder =
     ((t : ℤ) → inNumberOrder (openChecks t) ≡ true)
-    × ((l : Ledger) (call : Call) → inNumberOrder (checksOf l call) ≡ true)
+    × ((l : Ledger) (call : Call) (room : ℕ) → inNumberOrder (checksOf l call room) ≡ true)
 
 -- a check that fails, and each before it passes
 pub record FirstFails (c : Check) (cs : List Check) : Type 0 where
@@ -27,23 +29,23 @@ pub record FirstFails (c : Check) (cs : List Check) : Type 0 where
   pub passed : (b : Check) → List·Memᴰ b before → b .fails ≡ false
   pub failed : c .fails ≡ true
 
--- the first to fail is given, and a number is given only then (S2)
-pub record GivesTheFirst (cs : List Check) (accepted : Answer) : Type 0 where
-  pub given : (c : Check) → FirstFails c cs → firstToFail cs accepted ≡ Refused (c .refusal)
-  pub only-then : (n : ℕ) → (numberOf accepted ≡ n → ⊥) → numberOf (firstToFail cs accepted) ≡ n → (c : Check) × FirstFails c cs × (refusalNumber (c .refusal) ≡ n)
+-- the first to fail is given, and a refusal is given only then (S2)
+pub record GivesTheFirst (cs : List Check) : Type 0 where
+  pub given : (c : Check) → FirstFails c cs → firstToFail cs ≡ Failed (c .refusal)
+  pub only-then : (r : Refusal) → firstToFail cs ≡ Failed r → (c : Check) × FirstFails c cs × (c .refusal ≡ r)
 
 abbrev pub FirstToFailIsGiven : Type 0
-FirstToFailIsGiven = (cs : List Check) (accepted : Answer) → GivesTheFirst cs accepted
+FirstToFailIsGiven = (cs : List Check) → GivesTheFirst cs
 
 -- of checks in number order that fail, the one of least number is given
 abbrev pub LeastNumberIsGiven : Type 0
 LeastNumberIsGiven =
-    (cs : List Check) (accepted : Answer)
+    (cs : List Check)
     → inNumberOrder cs ≡ true
     → (c : Check)
     → List·Memᴰ c cs
     → c .fails ≡ true
-    → numberOf (firstToFail cs accepted) ≤ refusalNumber (c .refusal)
+    → (r : Refusal) × (firstToFail cs ≡ Failed r) × (refusalNumber r ≤ refusalNumber (c .refusal))
 
 -- number 0 is that of an accepted call; a refused one has no counts, and every number but 8 returns 0 (S2)
 pub record RefusalIsPlain (a : Answer) : Type 0 where

@@ -1,21 +1,26 @@
 -- The plain ledger: document 01, "The plain ledger". It keeps the time, the held reports and the placements, and knows nothing of buffers, keys
 -- or slots.
 -- Assumes nothing.
-use mathlib.Core.Bool.{Bool, false, _&&_, _||_, cond}
-use mathlib.Core.List.{List, [], _∷_, _++_}
+use mathlib.Core.Bool.{Bool, false, _&&_, _||_, cond, not}
+use mathlib.Core.List.{List, [], _∷_, _++_, map}
 use Prim.Native.Nat.{ℕ, _+_}
 use lib.Dec.{eqb, leb}
 use lib.IntN.{ℤ}
 use lib.ListN.{length}
 use Rattle.ints.specs.Whole.{eqZ, up}
+use Rattle.ints.specs.Lists.{passing}
 use Rattle.grid.specs.Reports.{cellAtTime, isListed}
 use Rattle.grid.specs.declared.Cell.{Cell}
-use Rattle.grid.specs.declared.Rect.{Rect}
+use Rattle.grid.specs.declared.Query.{Query}
 use Rattle.grid.specs.declared.Report.{Report}
 use Rattle.rows.specs.Row.{rowOfSpeed, boundsOf}
-use Rattle.rows.specs.Phases.{phaseOf, referenceTime, sinceReference, isLive, livePhases}
+use Rattle.rows.specs.Phases.{phaseOf, referenceTime, isLive, livePhases}
 use Rattle.rows.specs.declared.Row.{Row}
+use Rattle.methods.specs.Aims.{aimIn}
 use Rattle.methods.specs.Methods.{Rows, Choice, choice}
+use Rattle.ledger.specs.declared.Ask.{Ask}
+use Rattle.ledger.specs.declared.Change.{Change}
+use Rattle.ledger.specs.declared.Change.the-variants as Change
 
 -- a held report, and the phase in which its float is placed
 pub record Held : Type 0 where
@@ -45,32 +50,36 @@ placement p r = record { phase = p; cell = placeIn p r; vx = r .vx; vy = r .vy }
 abbrev pub opened : ℤ → Ledger
 opened t = record { now = t; held = []; placements = [] }
 
--- ---- the clock step, which clock, add, report and drop share
+-- ---- the clock step to a time, which clock, add, report and drop share
 
--- a float whose phase is dead is placed in the current one
-unfoldable pub steppedHeld : ℕ → List Held → List Held
-steppedHeld c [] = []
-steppedHeld c (h ∷ hs) =
-    cond (isLive c (h .phase)) h (record { report = h .report; phase = c }) ∷ steppedHeld c hs
+-- a float whose phase lives on stays
+abbrev pub stays : ℤ → Held → Bool
+stays time h = isLive (phaseOf time) (h .phase)
 
-unfoldable pub newPlacements : ℕ → List Held → List Placement
-newPlacements c [] = []
-newPlacements c (h ∷ hs) =
-    cond (isLive c (h .phase)) (newPlacements c hs) (placement c (h .report) ∷ newPlacements c hs)
+-- any other moves: it is placed in the phase of the time
+abbrev pub moves : ℤ → Held → Bool
+moves time h = not (stays time h)
+
+abbrev pub steppedOne : ℤ → Held → Held
+steppedOne time h = cond (stays time h) h (record { report = h .report; phase = phaseOf time })
+
+unfoldable pub steppedHeld : ℤ → List Held → List Held
+steppedHeld time hs = map (steppedOne time) hs
+
+-- re-placed floats append one
+unfoldable pub newPlacements : ℤ → List Held → List Placement
+newPlacements time hs = map (λ h. placement (phaseOf time) (h .report)) (passing (moves time) hs)
 
 -- placements of dead phases go
-unfoldable pub livePlacements : ℕ → List Placement → List Placement
-livePlacements c [] = []
-livePlacements c (p ∷ ps) = cond (isLive c (p .phase)) (p ∷ livePlacements c ps) (livePlacements c ps)
+unfoldable pub livePlacements : ℤ → List Placement → List Placement
+livePlacements time ps = passing (λ p. isLive (phaseOf time) (p .phase)) ps
 
 unfoldable pub stepped : ℤ → Ledger → Ledger
-stepped t l =
-    let c = phaseOf t in
-    record {
-      now = t;
-      held = steppedHeld c (l .held);
-      placements = livePlacements c (l .placements) ++ newPlacements c (l .held);
-    }
+stepped time l = record {
+  now = time;
+  held = steppedHeld time (l .held);
+  placements = livePlacements time (l .placements) ++ newPlacements time (l .held);
+}
 
 -- ---- the changes after it
 
@@ -95,14 +104,11 @@ withReport r l =
 unfoldable pub withoutId : ℤ → Ledger → Ledger
 withoutId id l = record { now = l .now; held = without id (l .held); placements = l .placements }
 
-abbrev pub added : Report → Ledger → Ledger
-added r l = withReport r (stepped (r .t) l)
-
-abbrev pub reported : Report → Ledger → Ledger
-reported r l = withReport r (withoutId (r .id) (stepped (r .t) l))
-
-abbrev pub dropped : ℤ → ℤ → Ledger → Ledger
-dropped id t l = withoutId id (stepped t l)
+-- what a change does after the clock step
+abbrev pub changed : Change → Ledger → Ledger
+changed (Change.Add r) l = withReport r l
+changed (Change.Report r) l = withReport r (withoutId (r .id) l)
+changed (Change.Drop id t) l = withoutId id l
 
 -- ---- asks
 
@@ -120,14 +126,13 @@ unfoldable pub rowsIn : Ledger → ℕ → Rows
 rowsIn l p c = boundsOf (speedsPlaced p c (l .placements))
 
 -- what a method chooses in a live phase
-abbrev pub choiceIn : Ledger → ℕ → ℤ → Rect → ℕ → Choice
-choiceIn l method asked q p = choice method (rowsIn l p) q (sinceReference p asked)
+abbrev pub choiceIn : Ledger → ℕ → Query → ℕ → Choice
+choiceIn l method query p = choice method (rowsIn l p) (aimIn p query)
 
--- the held reports that an ask lists
-unfoldable pub listedHeld : Rect → ℤ → List Held → List Held
-listedHeld q asked [] = []
-listedHeld q asked (h ∷ hs) =
-    cond (isListed q asked (h .report)) (h ∷ listedHeld q asked hs) (listedHeld q asked hs)
+-- the held reports that a query lists
+unfoldable pub listedHeld : Query → List Held → List Held
+listedHeld query [] = []
+listedHeld query (h ∷ hs) = cond (isListed query (h .report)) (h ∷ listedHeld query hs) (listedHeld query hs)
 
 -- whether a listed float is placed in a cell of a phase by its held report
 unfoldable pub isUseful : ℕ → Cell → List Held → Bool
@@ -155,16 +160,24 @@ unfoldable pub summed : (ℕ → ℕ) → List ℕ → ℕ
 summed f [] = 0
 summed f (p ∷ ps) = f p + summed f ps
 
-module _ (l : Ledger) (method : ℕ) (asked : ℤ) (q : Rect) where
+module _ (l : Ledger) (a : Ask) where
+  abbrev pub phasesAsked : List ℕ
+  phasesAsked = livePhases (phaseOf (l .now))
+
+  abbrev pub choiceAsked : ℕ → Choice
+  choiceAsked p = choiceIn l (up (a .method)) (a .query) p
+
+  abbrev pub heldAsked : List Held
+  heldAsked = listedHeld (a .query) (l .held)
+
   abbrev pub idsListed : List ℕ
-  idsListed = idsInOrder (listedHeld q asked (l .held))
+  idsListed = idsInOrder heldAsked
 
   abbrev pub cellsRead : ℕ
-  cellsRead = summed (λ p. length (choiceIn l method asked q p .cells)) (livePhases (phaseOf (l .now)))
+  cellsRead = summed (λ p. length (choiceAsked p .cells)) phasesAsked
 
   abbrev pub usefulRead : ℕ
-  usefulRead =
-      summed (λ p. usefulCells p (listedHeld q asked (l .held)) (choiceIn l method asked q p .cells)) (livePhases (phaseOf (l .now)))
+  usefulRead = summed (λ p. usefulCells p heldAsked (choiceAsked p .cells)) phasesAsked
 
   abbrev pub roundsTaken : ℕ
-  roundsTaken = summed (λ p. choiceIn l method asked q p .rounds) (livePhases (phaseOf (l .now)))
+  roundsTaken = summed (λ p. choiceAsked p .rounds) phasesAsked

@@ -1,19 +1,26 @@
--- When a call is declined for its numbers: document 01's table, rows 3 and 4, and the rule that the checks
--- stand in number order and the first to fail is given.
+-- When a call is declined: document 01's table from row 3 on, and the rule that the checks stand in number order and the first to fail is given.
+-- The index and the ledger have these lists of checks in common; what is held, and the ids that an ask needs, each says by itself.
 -- Assumes nothing.
 use mathlib.Core.Bool.{Bool, true, false, _&&_, _||_, not}
 use mathlib.Core.List.{List, [], _∷_}
-use lib.Dec.{ltb}
+use Prim.Native.Nat.{ℕ}
+use lib.Dec.{leb, ltb}
 use lib.IntN.{ℤ, pos, _+ℤ_, _-ℤ_}
 use lib.Signed.{leZ, ltZ}
 use Rattle.ints.specs.Whole.{between}
 use Rattle.grid.specs.Reports.{isTime, isId, isPosition, inRange}
+use Rattle.grid.specs.Units.{capacity}
+use Rattle.grid.specs.declared.Query.{Query}
 use Rattle.grid.specs.declared.Rect.{Rect}
 use Rattle.grid.specs.declared.Report.{Report}
 use Rattle.ledger.specs.Answers.{refusalNumber}
-use Rattle.ledger.specs.declared.Answer.{Answer}
-use Rattle.ledger.specs.declared.Answer.the-variants.{Refused}
+use Rattle.ledger.specs.declared.Change.{Change}
+use Rattle.ledger.specs.declared.Change.the-variants as Change
+use Rattle.ledger.specs.declared.Ask.{Ask}
 use Rattle.ledger.specs.declared.Refusal.{Refusal}
+use Rattle.ledger.specs.declared.Refusal.the-variants.{BadTime, BadNumber, AlreadyHeld, NotHeld, Full, ListTooShort}
+use Rattle.ledger.specs.declared.Verdict.{Verdict}
+use Rattle.ledger.specs.declared.Verdict.the-variants.{Passed, Failed}
 
 -- one check: whether it fails, and the refusal given then
 pub record Check : Type 0 where
@@ -23,14 +30,14 @@ pub record Check : Type 0 where
 abbrev pub check : Bool → Refusal → Check
 check b r = record { fails = b; refusal = r }
 
-abbrev pub unless : Bool → Refusal → Answer → Answer
-unless true r a = Refused r
-unless false r a = a
+abbrev pub unless : Bool → Refusal → Verdict → Verdict
+unless true r v = Failed r
+unless false r v = v
 
--- checks run one by one, and the first to fail is given; with none the call is accepted
-unfoldable pub firstToFail : List Check → Answer → Answer
-firstToFail [] accepted = accepted
-firstToFail (c ∷ cs) accepted = unless (c .fails) (c .refusal) (firstToFail cs accepted)
+-- checks run one by one, and the first to fail is given
+unfoldable pub firstToFail : List Check → Verdict
+firstToFail [] = Passed
+firstToFail (c ∷ cs) = unless (c .fails) (c .refusal) (firstToFail cs)
 
 -- each check's number is below that of the check after it
 unfoldable pub inNumberOrder : List Check → Bool
@@ -47,8 +54,8 @@ abbrev pub badStepTime : ℤ → ℤ → Bool
 badStepTime now t = not (isTime t) || ltZ t now
 
 -- 3, for ask: or outside now - 3,600 to now + 7,200
-abbrev pub badAskTime : ℤ → ℤ → Bool
-badAskTime now asked = not (isTime asked) || not (between (now -ℤ pos 3600) (now +ℤ pos 7200) asked)
+abbrev pub badAskTime : ℤ → Query → Bool
+badAskTime now query = not (isTime (query .time)) || not (between (now -ℤ pos 3600) (now +ℤ pos 7200) (query .time))
 
 -- 4, for add and report: id, position or speed outside its range
 abbrev pub badReport : Report → Bool
@@ -65,5 +72,44 @@ isRectangle q =
     && (leZ (q .x .low) (q .x .high) && leZ (q .y .low) (q .y .high))
 
 -- 4, for ask: method outside 0 to 3, a corner outside the sea, or low above high
-abbrev pub badAsk : ℤ → Rect → Bool
-badAsk method q = not (between (pos 0) (pos 3) method && isRectangle q)
+abbrev pub badAsk : Ask → Bool
+badAsk a = not (between (pos 0) (pos 3) (a .method) && isRectangle (a .query .rect))
+
+-- ---- the checks of each call, in number order
+
+abbrev pub clockChecks : ℤ → ℤ → List Check
+clockChecks now t = check (badStepTime now t) BadTime ∷ []
+
+-- the time that a change goes to, and the float that it is about
+abbrev pub timeOf : Change → ℤ
+timeOf (Change.Add r) = r .t
+timeOf (Change.Report r) = r .t
+timeOf (Change.Drop id t) = t
+
+abbrev pub idOf : Change → ℤ
+idOf (Change.Add r) = r .id
+idOf (Change.Report r) = r .id
+idOf (Change.Drop id t) = id
+
+abbrev pub badNumbers : Change → Bool
+badNumbers (Change.Add r) = badReport r
+badNumbers (Change.Report r) = badReport r
+badNumbers (Change.Drop id t) = badId id
+
+-- 5 to 7, by the floats held after the clock step: whether the one that the change is about is held, and how many are
+abbrev pub heldChecks : Change → Bool → ℕ → List Check
+heldChecks (Change.Add r) isHeld held = check isHeld AlreadyHeld ∷ check (leb capacity held) Full ∷ []
+heldChecks (Change.Report r) isHeld held = check (not isHeld) NotHeld ∷ []
+heldChecks (Change.Drop id t) isHeld held = check (not isHeld) NotHeld ∷ []
+
+abbrev pub changeChecks : ℤ → Change → Bool → ℕ → List Check
+changeChecks now c isHeld held =
+    check (badStepTime now (timeOf c)) BadTime ∷ check (badNumbers c) BadNumber ∷ heldChecks c isHeld held
+
+-- an answer list with so much room, and the ids needed
+abbrev pub askChecks : ℤ → Ask → ℕ → ℕ → List Check
+askChecks now a room needed =
+    check (badAskTime now (a .query)) BadTime
+    ∷ check (badAsk a) BadNumber
+    ∷ check (ltb room needed) (ListTooShort needed)
+    ∷ []

@@ -11,7 +11,10 @@ use Rattle.grid.specs.declared.Rect.{Rect}
 use Rattle.grid.specs.declared.Report.{Report}
 use Rattle.ledger.specs.Answers.{numberOf, countsOf}
 use Rattle.ledger.specs.Machine.{Ledger, Held, Placement, opened}
-use Rattle.ledger.specs.Calls.{Call, Reply, clock, add, report, drop, ask, after, answerTo}
+use Rattle.ledger.specs.Calls.{Fed, Reply, after, answerTo}
+use Rattle.ledger.specs.declared.Call.the-variants as Call
+use Rattle.ledger.specs.declared.Change.{Change}
+use Rattle.ledger.specs.declared.Change.the-variants as Change
 use Rattle.ledger.specs.declared.Answer.{Answer}
 use Rattle.ledger.specs.declared.Answer.the-variants.{Accepted, Listed, Refused}
 use Rattle.ledger.specs.declared.Refusal.the-variants.{BadTime, BadNumber, AlreadyHeld, NotHeld, ListTooShort}
@@ -22,6 +25,26 @@ sent id t x y vx vy = record { id = pos id; t = pos t; x = pos x; y = pos y; vx 
 abbrev pub rectangle : ℕ → ℕ → ℕ → ℕ → Rect
 rectangle lowX lowY highX highY =
     record { x = record { low = pos lowX; high = pos highX }; y = record { low = pos lowY; high = pos highY } }
+
+-- what the ledger is fed of each call; only an ask is lent a list
+abbrev pub clock : ℤ → Fed
+clock t = record { call = Call.Clock t; room = 0 }
+
+abbrev pub change : Change → Fed
+change c = record { call = Call.Change c; room = 0 }
+
+abbrev pub add : Report → Fed
+add r = change (Change.Add r)
+
+abbrev pub report : Report → Fed
+report r = change (Change.Report r)
+
+abbrev pub drop : ℤ → ℤ → Fed
+drop id t = change (Change.Drop id t)
+
+abbrev pub ask : ℤ → ℤ → Rect → ℕ → Fed
+ask method time rect room =
+    record { call = Call.Ask (record { method = method; query = record { rect = rect; time = time } }); room = room }
 
 -- P11: open at 0, three floats, and an ask for 3,600
 unfoldable pub ledgerP11 : Ledger
@@ -66,7 +89,7 @@ sightings =
     ∷ []
 
 -- the listing after its open at 0, each ask lent a list of 1,024 ids
-unfoldable pub listing : List Call
+unfoldable pub listing : List Fed
 listing =
     add (sent 7 0 100000 100000 (pos 100) (pos 0))
     ∷ add (sent 9 0 600000 100000 (negsuc 49) (pos 0))
@@ -87,12 +110,12 @@ listingSays =
     ∷ []
 
 -- the answers to some calls, from a ledger on
-unfoldable pub answers : Ledger → List Call → List Answer
+unfoldable pub answers : Ledger → List Fed → List Answer
 answers l [] = []
 answers l (call ∷ calls) = answerTo l call ∷ answers (after l (call ∷ [])) calls
 
 -- after an open at 3,600: each refusal from 3 to 6 and 8, and what is accepted beside it
-unfoldable pub refused : List Call
+unfoldable pub refused : List Fed
 refused =
     clock (pos 3599)
     ∷ clock (pos 1000000000)

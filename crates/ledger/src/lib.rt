@@ -1,6 +1,7 @@
 // The calls after open and what a call gives back, in the index and in the plain ledger alike. The ledger itself is definitions only: see specs/.
 ghost use mathlib.Core.Path.{_≡_};
 ghost use Rattle.ledger.specs.Answers.{refusalNumber, refusalValue};
+ghost use Rattle.ledger.specs.Refusals.{timeOf, idOf};
 use grid::Query;
 use grid::Report;
 
@@ -12,6 +13,30 @@ pub enum Change {
     Report(Report),
     // A held float is taken out: its id, the time.
     Drop(i32, i32),
+}
+
+impl Change {
+    // The time that the clock goes to.
+    pub fn time(self) -> i32
+        ensures { λ r. ⌜ r ≡ timeOf self ⌝ }
+    {
+        match self {
+            Change::Add(r) => r.t,
+            Change::Report(r) => r.t,
+            Change::Drop(_, t) => t,
+        }
+    }
+
+    // The float that it is about.
+    pub fn id(self) -> i32
+        ensures { λ r. ⌜ r ≡ idOf self ⌝ }
+    {
+        match self {
+            Change::Add(r) => r.id,
+            Change::Report(r) => r.id,
+            Change::Drop(id, _) => id,
+        }
+    }
 }
 
 // An ask: the method by which cells are chosen, and the query.
@@ -54,6 +79,12 @@ pub enum Refusal {
     Full,
     // 8: ask, list shorter than the ids needed.
     ListTooShort(usize),
+}
+
+// What the checks of a call come to.
+pub enum Verdict {
+    Passed,
+    Failed(Refusal),
 }
 
 impl Refusal {

@@ -61,7 +61,11 @@ module _ (lead : ℕ) (before : List ℕ) (alone : (k : ℕ) → length before �
       let m : n % 10 ≡ n = omega arith in
       rw (e, m, digits-one k n l, alone k h) (justified-more k before (digit n))
 
-  more-digits : (k n : ℕ) → 10 ≤ n → columnsOf k lead (n / 10 / 10) ++ digit (n / 10 % 10) ∷ [] ≡ justified (suc k) (before ++ digits (suc k) (n / 10)) → columnsOf (suc k) lead (n / 10) ++ digit (n % 10) ∷ [] ≡ justified (suc (suc k)) (before ++ digits (suc (suc k)) n)
+  more-digits :
+      (k n : ℕ)
+      → 10 ≤ n
+      → columnsOf k lead (n / 10 / 10) ++ digit (n / 10 % 10) ∷ [] ≡ justified (suc k) (before ++ digits (suc k) (n / 10))
+      → columnsOf (suc k) lead (n / 10) ++ digit (n % 10) ∷ [] ≡ justified (suc (suc k)) (before ++ digits (suc (suc k)) n)
   more-digits k n h e =
       ap (λ (t : List ℕ). t ++ digit (n % 10) ∷ []) (columns-more k lead (n / 10) (omega arith) ∙ e)
       ∙ justified-more (suc k) (before ++ digits (suc k) (n / 10)) (digit (n % 10))

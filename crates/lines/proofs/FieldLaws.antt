@@ -16,8 +16,8 @@ use lib.ListN.{length, getD, take, drop, length-drop}
 use lib.Seq.{take-suc, getD-drop}
 use Rattle.ints.proofs.Parts.{true-false}
 use Rattle.ints.proofs.Truth.{and-left, and-right}
-use Rattle.lines.specs.declared.Seen.{Seen}
-use Rattle.lines.specs.declared.Seen.the-variants.{Blanks, Minus, Zero, Digits, Other}
+use Rattle.lines.specs.declared.reading.Seen.{Seen}
+use Rattle.lines.specs.declared.reading.Seen.the-variants.{Blanks, Minus, Zero, Digits, Other}
 use Rattle.lines.specs.Lines.{digit, fieldOf, isWritable, greatest, leastSize}
 use Rattle.lines.specs.Reading.{withDigit, after, number, noNumber, numberOf, seenAt, fieldAt}
 use Rattle.lines.specs.Writing.{columnsOf, tenColumns}
@@ -102,7 +102,11 @@ unfolding after
 lead-read false = refl
 lead-read true = refl
 
-more-read : (negative : Bool) (k n : ℕ) → 0 < n → readAll Blanks (columnsOf k (leadFor negative) (n / 10)) ≡ seenOf negative (n / 10) → readAll Blanks (columnsOf (suc k) (leadFor negative) n) ≡ seenOf negative n
+more-read :
+    (negative : Bool) (k n : ℕ)
+    → 0 < n
+    → readAll Blanks (columnsOf k (leadFor negative) (n / 10)) ≡ seenOf negative (n / 10)
+    → readAll Blanks (columnsOf (suc k) (leadFor negative) n) ≡ seenOf negative n
 more-read negative k n h e =
     ap (readAll Blanks) (columns-more k (leadFor negative) n h)
     ∙ read-append Blanks (columnsOf k (leadFor negative) (n / 10)) (digit (n % 10))
@@ -241,7 +245,11 @@ below-field : (n : ℕ) (t : List ℕ) → t ≡ columnsOf 10 45 (suc n) → num
 unfolding numberOf
 below-field n t e = go (leb (suc n) leastSize) refl
   where
-    go : (d : Bool) → leb (suc n) leastSize ≡ d → cond (leb (suc n) leastSize) (number (negsuc n)) noNumber .good ≡ true → t ≡ fieldOf (cond (leb (suc n) leastSize) (number (negsuc n)) noNumber .number)
+    go :
+        (d : Bool)
+        → leb (suc n) leastSize ≡ d
+        → cond (leb (suc n) leastSize) (number (negsuc n)) noNumber .good ≡ true
+        → t ≡ fieldOf (cond (leb (suc n) leastSize) (number (negsuc n)) noNumber .number)
     go true d =
         rw d
         (λ _. e ∙ columns-more 9 45 (suc n) (omega arith) ∙ sym (field-below n (omega (arith, leb-true (suc n) leastSize d))))

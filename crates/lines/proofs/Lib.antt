@@ -4,5 +4,4 @@ pub mod FieldLaws
 pub mod LineLaws
 pub mod Claims
 pub mod PutLaws
-pub mod AnswerLaws
 pub mod Sightings

@@ -70,10 +70,6 @@ put-field out at z zs h w =
     sym (put-put out at (fieldOf z) (fields zs) h)
     ∙ ap (λ (i : ℕ). put (put out at (fieldOf z)) (at + i) (fields zs)) (length-field z w)
 
-pub put-fields-none : (out : List ℕ) (at : ℕ) → put out at (fields []) ≡ out
-unfolding fields
-put-fields-none = put-none
-
 -- a letter, and the fields after it
 pub put-line : (out : List ℕ) (letter : ℕ) (zs : List ℤ) → 0 < length out → put (set out 0 letter) 1 (fields zs) ≡ lineOf letter zs ++ drop (length (lineOf letter zs)) out
 put-line out letter zs h =

@@ -4,17 +4,17 @@ use mathlib.Core.Path.{_≡_, refl}
 use mathlib.Core.List.{map, _++_}
 use Prim.Native.Char.{code}
 use Prim.Native.String.{String}
-use Rattle.lines.specs.declared.LineCall.the-variants.{NoCall}
-use Rattle.lines.specs.Lines.{digits, written, fieldOf, fields, numbersOf, callLine, answerLine, noCallLine}
-use Rattle.lines.specs.Reading.{withDigit, after, numberOf, seenAt, sixIn, callOf, numbersAfter, readLine}
+use Rattle.lines.specs.declared.Line.the-variants.{NoCall}
+use Rattle.lines.specs.Lines.{digits, written, fieldOf, fields, letterOf, changeNumbers, numbersOf, callLine, answerLine, noCallLine}
+use Rattle.lines.specs.Reading.{withDigit, after, numberOf, seenAt, numbersIn, areNumbers, callOf, countOf, readLine}
 use Rattle.lines.specs.Sightings.{bytes, Said, listing, Answered, answered, shortList, limits, damaged}
 
 pub listing-is-read : map (λ (s : Said). readLine (bytes (s .line))) (listing ++ limits) ≡ map (λ (s : Said). s .call) (listing ++ limits)
-unfolding bytes listing limits readLine numbersAfter callOf sixIn seenAt numberOf after withDigit
+unfolding bytes listing limits readLine countOf numbersOf changeNumbers callOf numbersIn areNumbers seenAt numberOf after withDigit
 listing-is-read = refl
 
 pub listing-is-written : map (λ (s : Said). callLine (s .call)) (listing ++ limits) ≡ map (λ (s : Said). bytes (s .line)) (listing ++ limits)
-unfolding bytes listing limits callLine numbersOf fields fieldOf written digits
+unfolding bytes listing limits callLine letterOf numbersOf changeNumbers fields fieldOf written digits
 listing-is-written = refl
 
 pub answers-are-written : map (λ (a : Answered). answerLine (code (a .letter)) (a .answer) (a .ids)) answered ≡ map (λ (a : Answered). bytes (a .line)) answered
@@ -26,9 +26,9 @@ unfolding bytes fields fieldOf written digits
 refused-is-written = refl
 
 pub no-call-is-written : noCallLine ≡ bytes "?         9         0"
-unfolding bytes noCallLine fields fieldOf written digits
+unfolding bytes noCallLine letterOf fields fieldOf written digits
 no-call-is-written = refl
 
 pub damaged-are-no-calls : map (λ (s : String). readLine (bytes s)) damaged ≡ map (λ (s : String). NoCall) damaged
-unfolding bytes damaged readLine numbersAfter callOf sixIn seenAt numberOf after withDigit
+unfolding bytes damaged readLine countOf numbersOf changeNumbers callOf numbersIn areNumbers seenAt numberOf after withDigit
 damaged-are-no-calls = refl

@@ -1,7 +1,7 @@
 -- How a call and an answer are written as a line: document 01, "Lines". A byte is a number, and a line here has no newline.
 -- Assumes nothing.
 use mathlib.Core.Path.{_≡_}
-use mathlib.Core.Bool.{Bool, true, false, cond, _&&_}
+use mathlib.Core.Bool.{Bool, true, cond, _&&_}
 use mathlib.Core.List.{List, [], _∷_, _++_, map}
 use Prim.Native.Nat.{ℕ, zero, suc, _+_, _-_, _*_, _/_, _%_, _≤_}
 use Prim.Native.Char.{code}
@@ -11,11 +11,15 @@ use lib.ListN.{length, drop, replicate}
 use Rattle.ints.specs.Whole.{between}
 use Rattle.grid.specs.declared.Rect.{Rect}
 use Rattle.grid.specs.declared.Report.{Report}
-use Rattle.ledger.specs.Answers.{numberOf, valueOf, countsOf}
+use Rattle.ledger.specs.Answers.{numberOf, valueOf}
 use Rattle.ledger.specs.declared.Answer.{Answer}
 use Rattle.ledger.specs.declared.Answer.the-variants.{Accepted, Listed, Refused}
-use Rattle.lines.specs.declared.LineCall.{LineCall}
-use Rattle.lines.specs.declared.LineCall.the-variants.{Open, Clock, Add, Update, Drop, Ask, NoCall}
+use Rattle.ledger.specs.declared.Ask.{Ask}
+use Rattle.ledger.specs.declared.Change.{Change}
+use Rattle.ledger.specs.declared.Change.the-variants as Change
+use Rattle.ledger.specs.declared.Call.the-variants as Call
+use Rattle.lines.specs.declared.Line.{Line}
+use Rattle.lines.specs.declared.Line.the-variants as Line
 
 -- ---- one number
 
@@ -65,64 +69,86 @@ areWritable (z ∷ zs) = isWritable z && areWritable zs
 abbrev pub lineOf : ℕ → List ℤ → List ℕ
 lineOf letter numbers = letter ∷ fields numbers
 
+-- the bytes of a line of k numbers
+abbrev pub lineLength : ℕ → ℕ
+lineLength k = 1 + width * k
+
+-- ---- call lines
+
+-- the most numbers that a call line may have
+abbrev pub mostNumbers : ℕ
+mostNumbers = 8
+
+-- the letter of a line and of its answer
+unfoldable pub letterOf : Line → ℕ
+letterOf (Line.Open t) = code "O"
+letterOf (Line.Call (Call.Clock t)) = code "C"
+letterOf (Line.Call (Call.Change (Change.Add r))) = code "A"
+letterOf (Line.Call (Call.Change (Change.Report r))) = code "U"
+letterOf (Line.Call (Call.Change (Change.Drop id t))) = code "D"
+letterOf (Line.Call (Call.Ask ask)) = code "Q"
+letterOf Line.NoCall = code "?"
+
 -- a call's numbers, in the order in which its line has them
 abbrev pub reportNumbers : Report → List ℤ
 reportNumbers r = r .id ∷ r .t ∷ r .x ∷ r .y ∷ r .vx ∷ r .vy ∷ []
 
-abbrev pub askNumbers : ℤ → ℤ → Rect → List ℤ
-askNumbers method t q = method ∷ t ∷ q .x .low ∷ q .y .low ∷ q .x .high ∷ q .y .high ∷ []
+unfoldable pub changeNumbers : Change → List ℤ
+changeNumbers (Change.Add r) = reportNumbers r
+changeNumbers (Change.Report r) = reportNumbers r
+changeNumbers (Change.Drop id t) = id ∷ t ∷ []
 
-unfoldable pub numbersOf : LineCall → List ℤ
-numbersOf (Open t) = t ∷ []
-numbersOf (Clock t) = t ∷ []
-numbersOf (Add r) = reportNumbers r
-numbersOf (Update r) = reportNumbers r
-numbersOf (Drop id t) = id ∷ t ∷ []
-numbersOf (Ask method t q) = askNumbers method t q
-numbersOf NoCall = []
+abbrev pub rectNumbers : Rect → List ℤ
+rectNumbers q = q .x .low ∷ q .y .low ∷ q .x .high ∷ q .y .high ∷ []
+
+abbrev pub askNumbers : Ask → List ℤ
+askNumbers ask = ask .method ∷ ask .query .time ∷ rectNumbers (ask .query .rect)
+
+unfoldable pub numbersOf : Line → List ℤ
+numbersOf (Line.Open t) = t ∷ []
+numbersOf (Line.Call (Call.Clock t)) = t ∷ []
+numbersOf (Line.Call (Call.Change change)) = changeNumbers change
+numbersOf (Line.Call (Call.Ask ask)) = askNumbers ask
+numbersOf Line.NoCall = []
 
 -- a call's line; what is no call has none
-unfoldable pub callLine : LineCall → List ℕ
-callLine (Open t) = lineOf (code "O") (numbersOf (Open t))
-callLine (Clock t) = lineOf (code "C") (numbersOf (Clock t))
-callLine (Add r) = lineOf (code "A") (numbersOf (Add r))
-callLine (Update r) = lineOf (code "U") (numbersOf (Update r))
-callLine (Drop id t) = lineOf (code "D") (numbersOf (Drop id t))
-callLine (Ask method t q) = lineOf (code "Q") (numbersOf (Ask method t q))
-callLine NoCall = []
+unfoldable pub callLine : Line → List ℕ
+callLine (Line.Open t) = lineOf (letterOf (Line.Open t)) (numbersOf (Line.Open t))
+callLine (Line.Call call) = lineOf (letterOf (Line.Call call)) (numbersOf (Line.Call call))
+callLine Line.NoCall = []
 
--- whether it is an accepted ask's
-abbrev pub isListing : Answer → Bool
-isListing (Accepted held) = false
-isListing (Listed listed cells useful rounds) = true
-isListing (Refused r) = false
+-- ---- answer lines
 
 -- what an accepted ask's line has after the number and the value returned, which is the ids listed: cells, useful, rounds, then the ids
 abbrev pub furtherNumbers : Answer → List ℕ → List ℕ
-furtherNumbers answer ids =
-    let counts = countsOf answer in
-    cond (isListing answer) (counts .cells ∷ counts .useful ∷ counts .rounds ∷ ids) []
+furtherNumbers (Accepted held) ids = []
+furtherNumbers (Listed listed cells useful rounds) ids = cells ∷ useful ∷ rounds ∷ ids
+furtherNumbers (Refused why) ids = []
 
 abbrev pub answerNumbers : Answer → List ℕ → List ℕ
 answerNumbers answer ids = numberOf answer ∷ valueOf answer ∷ furtherNumbers answer ids
+
+-- the most numbers of an answer beside its ids
+abbrev pub mostAnswered : ℕ
+mostAnswered = 5
 
 abbrev pub answerLine : ℕ → Answer → List ℕ → List ℕ
 answerLine letter answer ids = lineOf letter (map pos (answerNumbers answer ids))
 
 -- the answer to a line that is no call
 unfoldable pub noCallLine : List ℕ
-noCallLine = lineOf (code "?") (pos 9 ∷ pos 0 ∷ [])
+noCallLine = lineOf (letterOf Line.NoCall) (pos 9 ∷ pos 0 ∷ [])
 
 -- ---- where a line is written
 
 -- numbers that a line may have, and room for a letter and their fields
 pub record Room (numbers : List ℤ) (out : List ℕ) : Type 0 where
-  pub room : 1 + width * length numbers ≤ length out
+  pub room : lineLength (length numbers) ≤ length out
   pub writable : areWritable numbers ≡ true
 
 -- the same of an answer; the ids are at most 65,535
 pub record AnswerRoom (answer : Answer) (ids out : List ℕ) : Type 0 where
-  pub room : 1 + width * length (answerNumbers answer ids) ≤ length out
+  pub room : lineLength (length (answerNumbers answer ids)) ≤ length out
   pub writable : areWritable (map pos (answerNumbers answer [])) ≡ true
 
 -- a text written in front of some bytes, the rest kept, and its length returned

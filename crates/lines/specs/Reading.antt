@@ -1,21 +1,24 @@
 -- How a call line is read. That a line is read exactly to the call that writes it is proved in proofs/Claims.antt.
 -- Assumes nothing.
+use mathlib.Core.Path.{_≡_}
 use mathlib.Core.Bool.{Bool, true, false, cond, _&&_}
-use mathlib.Core.List.{List}
+use mathlib.Core.List.{List, [], _∷_, _++_}
 use Prim.Native.Nat.{ℕ, zero, suc, _+_, _-_, _*_}
 use Prim.Native.Char.{code}
 use lib.Dec.{eqb, leb}
 use lib.IntN.{ℤ, pos, negℤ}
-use lib.ListN.{length, getD}
+use lib.ListN.{length, getD, replicate}
 use Rattle.grid.specs.declared.Rect.{Rect}
 use Rattle.grid.specs.declared.Report.{Report}
-use Rattle.lines.specs.declared.Field.{Field}
-use Rattle.lines.specs.declared.Six.{Six}
-use Rattle.lines.specs.declared.LineCall.{LineCall}
-use Rattle.lines.specs.declared.LineCall.the-variants.{Open, Clock, Add, Update, Drop, Ask, NoCall}
-use Rattle.lines.specs.declared.Seen.{Seen}
-use Rattle.lines.specs.declared.Seen.the-variants.{Blanks, Minus, Zero, Digits, Other}
-use Rattle.lines.specs.Lines.{width, greatest, leastSize}
+use Rattle.ledger.specs.declared.Change.the-variants as Change
+use Rattle.ledger.specs.declared.Call.the-variants as Call
+use Rattle.lines.specs.declared.Line.{Line}
+use Rattle.lines.specs.declared.Line.the-variants as Line
+use Rattle.lines.specs.declared.reading.Field.{Field}
+use Rattle.lines.specs.declared.reading.Numbers.{Numbers}
+use Rattle.lines.specs.declared.reading.Seen.{Seen}
+use Rattle.lines.specs.declared.reading.Seen.the-variants.{Blanks, Minus, Zero, Digits, Other}
+use Rattle.lines.specs.Lines.{width, greatest, leastSize, mostNumbers, lineLength, numbersOf}
 
 -- ---- one number
 
@@ -68,70 +71,54 @@ fieldAt line at = numberOf (seenAt line at width)
 
 -- the field of a line's i-th number, from 0 on
 abbrev pub nthField : List ℕ → ℕ → Field
-nthField line i = fieldAt line (1 + width * i)
+nthField line i = fieldAt line (lineLength i)
 
-unfoldable pub sixIn : List ℕ → Six
-sixIn line =
-    let f = nthField line in
-    record {
-      good = ((((f 0 .good && f 1 .good) && f 2 .good) && f 3 .good) && f 4 .good) && f 5 .good;
-      first = f 0 .number;
-      second = f 1 .number;
-      third = f 2 .number;
-      fourth = f 3 .number;
-      fifth = f 4 .number;
-      sixth = f 5 .number;
-    }
+-- its first k numbers, and whether each of these fields has one
+unfoldable pub numbersIn : List ℕ → ℕ → List ℤ
+numbersIn line zero = []
+numbersIn line (suc k) = numbersIn line k ++ nthField line k .number ∷ []
 
-abbrev pub reportOf : Six → Report
-reportOf s =
-    record { id = s .first; t = s .second; x = s .third; y = s .fourth; vx = s .fifth; vy = s .sixth }
+unfoldable pub areNumbers : List ℕ → ℕ → Bool
+areNumbers line zero = true
+areNumbers line (suc k) = areNumbers line k && nthField line k .good
 
-abbrev pub rectOf : Six → Rect
-rectOf s =
-    record { x = record { low = s .third; high = s .fifth }; y = record { low = s .fourth; high = s .sixth } }
+-- a letter, k numbers and nothing more
+abbrev pub hasNumbers : List ℕ → ℕ → Bool
+hasNumbers line k = eqb (length line) (lineLength k) && areNumbers line k
 
-abbrev pub openOf : Field → LineCall
-openOf f = cond (f .good) (Open (f .number)) NoCall
+-- the call of a letter, whose numbers are 0 where none are left
+abbrev pub nth : List ℤ → ℕ → ℤ
+nth numbers i = getD numbers i (pos 0)
 
-abbrev pub clockOf : Field → LineCall
-clockOf f = cond (f .good) (Clock (f .number)) NoCall
+abbrev pub reportOf : List ℤ → Report
+reportOf ns = record { id = nth ns 0; t = nth ns 1; x = nth ns 2; y = nth ns 3; vx = nth ns 4; vy = nth ns 5 }
 
-abbrev pub dropOf : Field → Field → LineCall
-dropOf id t = cond (id .good && t .good) (Drop (id .number) (t .number)) NoCall
+abbrev pub rectOf : List ℤ → Rect
+rectOf ns = record { x = record { low = nth ns 2; high = nth ns 4 }; y = record { low = nth ns 3; high = nth ns 5 } }
 
-abbrev pub addOf : Six → LineCall
-addOf s = cond (s .good) (Add (reportOf s)) NoCall
+unfoldable pub callOf : ℕ → List ℤ → Line
+callOf letter ns =
+    cond (eqb letter (code "O")) (Line.Open (nth ns 0))
+    (cond (eqb letter (code "C")) (Line.Call (Call.Clock (nth ns 0)))
+    (cond (eqb letter (code "A")) (Line.Call (Call.Change (Change.Add (reportOf ns))))
+    (cond (eqb letter (code "U")) (Line.Call (Call.Change (Change.Report (reportOf ns))))
+    (cond (eqb letter (code "D")) (Line.Call (Call.Change (Change.Drop (nth ns 0) (nth ns 1))))
+    (cond (eqb letter (code "Q"))
+    (Line.Call (Call.Ask (record { method = nth ns 0; query = record { rect = rectOf ns; time = nth ns 1 } })))
+    Line.NoCall)))))
 
-abbrev pub updateOf : Six → LineCall
-updateOf s = cond (s .good) (Update (reportOf s)) NoCall
+-- how many numbers follow a letter: as many as its call has
+unfoldable pub countOf : ℕ → ℕ
+countOf letter = length (numbersOf (callOf letter []))
 
-abbrev pub askOf : Six → LineCall
-askOf s = cond (s .good) (Ask (s .first) (s .second) (rectOf s)) NoCall
-
--- the call of a letter, without a test of the line's length
-unfoldable pub callOf : ℕ → List ℕ → LineCall
-callOf letter line =
-    cond (eqb letter (code "O")) (openOf (nthField line 0))
-    (cond (eqb letter (code "C")) (clockOf (nthField line 0))
-    (cond (eqb letter (code "D")) (dropOf (nthField line 0) (nthField line 1))
-    (cond (eqb letter (code "A")) (addOf (sixIn line))
-    (cond (eqb letter (code "U")) (updateOf (sixIn line))
-    (cond (eqb letter (code "Q")) (askOf (sixIn line))
-    NoCall)))))
-
--- how many numbers follow a letter; 0 where it begins no call
-unfoldable pub numbersAfter : ℕ → ℕ
-numbersAfter letter =
-    cond (eqb letter (code "O")) 1
-    (cond (eqb letter (code "C")) 1
-    (cond (eqb letter (code "D")) 2
-    (cond (eqb letter (code "A")) 6
-    (cond (eqb letter (code "U")) 6
-    (cond (eqb letter (code "Q")) 6
-    0)))))
-
-unfoldable pub readLine : List ℕ → LineCall
+unfoldable pub readLine : List ℕ → Line
 readLine line =
     let letter = getD line 0 0 in
-    cond (eqb (length line) (1 + width * numbersAfter letter)) (callOf letter line) NoCall
+    let count = countOf letter in
+    cond (hasNumbers line count) (callOf letter (numbersIn line count)) Line.NoCall
+
+-- ---- what `read_numbers` leaves: 0 past the numbers of a good line
+
+pub record Reads (line : List ℕ) (count : ℕ) (r : Numbers) : Type 0 where
+  pub good-is : r .good ≡ hasNumbers line count
+  pub numbers-are : r .good ≡ true → r .numbers ≡ numbersIn line count ++ replicate (mostNumbers - count) (pos 0)

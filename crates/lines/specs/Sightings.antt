@@ -5,12 +5,16 @@ use Prim.Native.Nat.{ℕ}
 use Prim.Native.Char.{Char, code}
 use Prim.Native.String.{String, [] as []ᵀ, _∷_ as _∷ᵀ_}
 use lib.IntN.{pos, negsuc}
+use Rattle.grid.specs.declared.Rect.{Rect}
 use Rattle.ledger.specs.Sightings.{sent, rectangle}
 use Rattle.ledger.specs.declared.Answer.{Answer}
 use Rattle.ledger.specs.declared.Answer.the-variants.{Accepted, Listed, Refused}
 use Rattle.ledger.specs.declared.Refusal.the-variants.{NotHeld, ListTooShort}
-use Rattle.lines.specs.declared.LineCall.{LineCall}
-use Rattle.lines.specs.declared.LineCall.the-variants.{Open, Clock, Add, Drop, Ask}
+use Rattle.ledger.specs.declared.Change.{Change}
+use Rattle.ledger.specs.declared.Change.the-variants.{Add, Drop}
+use Rattle.ledger.specs.declared.Call.the-variants as Call
+use Rattle.lines.specs.declared.Line.{Line}
+use Rattle.lines.specs.declared.Line.the-variants as Line
 
 -- the bytes of a text that has no letter but those of ASCII
 unfoldable pub bytes : String → List ℕ
@@ -20,29 +24,35 @@ bytes (c ∷ᵀ text) = code c ∷ bytes text
 -- a line, and the call that it says
 pub record Said : Type 0 where
   pub line : String
-  pub call : LineCall
+  pub call : Line
+
+abbrev change : Change → Line
+change c = Line.Call (Call.Change c)
+
+abbrev ask : ℕ → ℕ → Rect → Line
+ask method time rect = Line.Call (Call.Ask (record { method = pos method; query = record { rect = rect; time = pos time } }))
 
 unfoldable pub listing : List Said
 listing =
-    record { line = "O         0"; call = Open (pos 0) }
+    record { line = "O         0"; call = Line.Open (pos 0) }
     ∷ record {
       line = "A         7         0    100000    100000       100         0";
-      call = Add (sent 7 0 100000 100000 (pos 100) (pos 0));
+      call = change (Add (sent 7 0 100000 100000 (pos 100) (pos 0)));
     }
     ∷ record {
       line = "A         9         0    600000    100000       -50         0";
-      call = Add (sent 9 0 600000 100000 (negsuc 49) (pos 0));
+      call = change (Add (sent 9 0 600000 100000 (negsuc 49) (pos 0)));
     }
     ∷ record {
       line = "Q         3      3600    400000         0    500000    200000";
-      call = Ask (pos 3) (pos 3600) (rectangle 400000 0 500000 200000);
+      call = ask 3 3600 (rectangle 400000 0 500000 200000);
     }
-    ∷ record { line = "D         7        10"; call = Drop (pos 7) (pos 10) }
+    ∷ record { line = "D         7        10"; call = change (Drop (pos 7) (pos 10)) }
     ∷ record {
       line = "Q         0      3600    400000         0    500000    200000";
-      call = Ask (pos 0) (pos 3600) (rectangle 400000 0 500000 200000);
+      call = ask 0 3600 (rectangle 400000 0 500000 200000);
     }
-    ∷ record { line = "D         7        20"; call = Drop (pos 7) (pos 20) }
+    ∷ record { line = "D         7        20"; call = change (Drop (pos 7) (pos 20)) }
     ∷ []
 
 -- an answer with its call's letter and the ids listed, and its line
@@ -80,8 +90,8 @@ shortList = record { letter = "Q"; answer = Refused (ListTooShort 2); ids = 7 �
 -- the least and the greatest number
 unfoldable pub limits : List Said
 limits =
-    record { line = "O-999999999"; call = Open (negsuc 999999998) }
-    ∷ record { line = "C2147483647"; call = Clock (pos 2147483647) }
+    record { line = "O-999999999"; call = Line.Open (negsuc 999999998) }
+    ∷ record { line = "C2147483647"; call = Line.Call (Call.Clock (pos 2147483647)) }
     ∷ []
 
 -- no call: wrong letters, wrong lengths, a trailing blank, a carriage return, and what is no number

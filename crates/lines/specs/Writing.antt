@@ -1,17 +1,17 @@
--- What the contracts of the writing functions cite: the columns of a number from the right to the left, a text put into bytes, and an answer's
--- numbers. That the columns are the number's field is proved in proofs/ColumnLaws.antt.
+-- What the contracts of the writing functions cite: the columns of a number from the right to the left, and a text put into bytes. That the
+-- columns are the number's field is proved in proofs/ColumnLaws.antt.
 -- Assumes nothing.
-use mathlib.Core.Bool.{false, cond}
+use mathlib.Core.Path.{_≡_}
+use mathlib.Core.Bool.{true, cond}
 use mathlib.Core.List.{List, [], _∷_, _++_}
-use Prim.Native.Nat.{ℕ, zero, suc, _+_, _/_, _%_}
+use Prim.Native.Nat.{ℕ, zero, suc, _+_, _*_, _/_, _%_, _≤_}
 use Prim.Native.Char.{code}
 use lib.Dec.{eqb}
 use lib.IntN.{ℤ, pos, negsuc}
 use lib.ListN.{length, take, drop}
-use Rattle.ledger.specs.Answers.{numberOf, valueOf, countsOf}
-use Rattle.ledger.specs.declared.Answer.{Answer}
-use Rattle.lines.specs.declared.Told.{Told}
-use Rattle.lines.specs.Lines.{digit, isListing}
+use Rattle.grid.specs.declared.Rect.{Rect}
+use Rattle.lines.specs.declared.writing.Corners.{Corners}
+use Rattle.lines.specs.Lines.{width, digit, isWritable, areWritable}
 
 -- the byte of a column, where n is what is left to write: its last digit, or `lead` where nothing is left
 abbrev pub byteOf : ℕ → ℕ → ℕ
@@ -39,20 +39,14 @@ leadOf (negsuc n) = code "-"
 unfoldable pub put : List ℕ → ℕ → List ℕ → List ℕ
 put out at text = take at out ++ text ++ drop (at + length text) out
 
--- an answer's numbers
-abbrev pub toldOf : Answer → Told
-toldOf answer =
-    let counts = countsOf answer in
-    record {
-      number = numberOf answer;
-      value = valueOf answer;
-      listing = isListing answer;
-      cells = counts .cells;
-      useful = counts .useful;
-      rounds = counts .rounds;
-    }
+abbrev pub cornersOf : Rect → Corners
+cornersOf q = record { «low_x» = q .x .low; «low_y» = q .y .low; «high_x» = q .x .high; «high_y» = q .y .high }
 
--- those of an answer that is no accepted ask's
-abbrev pub plain : ℕ → ℕ → Told
-plain number value =
-    record { number = number; value = value; listing = false; cells = 0; useful = 0; rounds = 0 }
+-- a number that a line may have, or several, and room for their fields from a place on
+pub record FieldRoom (at : ℕ) (z : ℤ) (out : List ℕ) : Type 0 where
+  pub room : at + width ≤ length out
+  pub writable : isWritable z ≡ true
+
+pub record FieldsRoom (at : ℕ) (numbers : List ℤ) (out : List ℕ) : Type 0 where
+  pub room : at + width * length numbers ≤ length out
+  pub writable : areWritable numbers ≡ true

@@ -1,5 +1,5 @@
--- The rules "per axis" of both ways to reach, each law once for both axes: an expanded range misses no position and grows with its bounds, a
--- column grows with its position, and a moved cell meets a range exactly when some whole position and whole speed lead into it.
+-- The rules "per axis" of both ways to reach, each law once for both axes: an expanded range grows with its bounds, a column grows
+-- with its position, and a moved cell meets a range exactly when some whole position and whole speed lead into it.
 -- Assumes nothing.
 use mathlib.Core.Path.{_≡_, refl, ap, _∙_}
 use mathlib.Core.Bool.{Bool, true, false, _&&_}
@@ -63,14 +63,6 @@ unfolding expandedRange
 expanded-is r l g (pos k) = refl
 expanded-is r l g (negsuc k) = simp (*ℤ-negsuc, negℤ-negℤ)
 
--- a position from which some speed between least and greatest leads into the range lies in the expanded range
-pub expanded-holds : (r : Range) (l g x v d : ℤ) → leZ l v ≡ true → leZ v g ≡ true → between (r .low) (r .high) (positionAfter x v d) ≡ true → (leZ (expandedRange r l g d .low) x ≡ true) × (leZ x (expandedRange r l g d .high) ≡ true)
-expanded-holds r l g x v d h e b =
-    let t = travels l g v d h e in
-    let a = from-low (r .low) (r .high) (x +ℤ v *ℤ d) b in
-    let c = to-high (r .low) (r .high) (x +ℤ v *ℤ d) b in
-    rw (expanded-is r l g d) (omega (arith, signed, add x (v *ℤ d), sub (r .low) (greatestTravel l g d), sub (r .high) (leastTravel l g d)))
-
 -- wider bounds give a wider range
 pub record Inside (s t : Range) : Type 0 where
   pub low-at : leZ (t .low) (s .low) ≡ true
@@ -80,7 +72,15 @@ pub expanded-grows : (r : Range) (l g l′ g′ d : ℤ) → leZ l′ l ≡ true
 expanded-grows r l g l′ g′ d h e =
     let p = least-grows l g l′ g′ d h e in
     let q = greatest-grows l g l′ g′ d h e in
-    rw (expanded-is r l g d, expanded-is r l′ g′ d) (omega (arith, signed, sub (r .low) (greatestTravel l g d), sub (r .low) (greatestTravel l′ g′ d), sub (r .high) (leastTravel l g d), sub (r .high) (leastTravel l′ g′ d)))
+    rw (expanded-is r l g d, expanded-is r l′ g′ d)
+    (omega (
+      arith,
+      signed,
+      sub (r .low) (greatestTravel l g d),
+      sub (r .low) (greatestTravel l′ g′ d),
+      sub (r .high) (leastTravel l g d),
+      sub (r .high) (leastTravel l′ g′ d),
+    ))
 
 pub expanded-ordered : (r : Range) (l g d : ℤ) → leZ (r .low) (r .high) ≡ true → leZ l g ≡ true → leZ (expandedRange r l g d .low) (expandedRange r l g d .high) ≡ true
 expanded-ordered r l g d o h =
@@ -91,9 +91,6 @@ expanded-ordered r l g d o h =
 
 pub column-grows : (a b : ℤ) → leZ a b ≡ true → columnOf a ≤ columnOf b
 column-grows a b h = omega (arith, signed, column-is a, column-is b, one-part a, one-part b)
-
-pub columns-grow : {s t : Range} → Inside s t → (columnOf (t .low) ≤ columnOf (s .low)) × (columnOf (s .high) ≤ columnOf (t .high))
-columns-grow {s} {t} h = (column-grows (t .low) (s .low) (h .low-at), column-grows (s .high) (t .high) (h .high-at))
 
 -- ---- moving
 
@@ -188,7 +185,15 @@ cell-wide i = go (eqb i 0) (eqb i 31)
     go false false = both {l = pos (cellSize * i)} {h = pos (cellSize * i + (cellSize - 1))} (omega arith)
 
 -- where the cell moved by u lies above the range, the cell moved by t, at most a cell's width less than u, does not lie below it
-no-gap : {lo hi : End} → Wide lo hi → (r : Range) → leZ (r .low) (r .high) ≡ true → (t u : ℤ) → up u + down t ≤ cellSize + (up t + down u) → notBelow (shifted lo u) (r .high) ≡ false → notAbove (shifted hi t) (r .low) ≡ true
+no-gap :
+    {lo hi : End}
+    → Wide lo hi
+    → (r : Range)
+    → leZ (r .low) (r .high) ≡ true
+    → (t u : ℤ)
+    → up u + down t ≤ cellSize + (up t + down u)
+    → notBelow (shifted lo u) (r .high) ≡ false
+    → notAbove (shifted hi t) (r .low) ≡ true
 no-gap no-low r o t u k h = absurd (true-false h)
 no-gap no-high r o t u k h = refl
 no-gap (both {l} {h} w) r o t u k e = omega (arith, signed, add l u, add h t)
@@ -206,7 +211,17 @@ step l g d small n =
     omega (arith, suc-mul n (natAbs d), add (leastTravel l g d) (pos (n * natAbs d)), add (leastTravel l g d) (pos (suc n * natAbs d)))
 
 -- from the last step downwards, the first at which the moved cell does not lie above the range
-stop : {lo hi : End} → Wide lo hi → (r : Range) → leZ (r .low) (r .high) ≡ true → (l g d : ℤ) → natAbs d ≤ cellSize → (n : ℕ) → notBelow (shifted lo (travelled l g d 0)) (r .high) ≡ true → notAbove (shifted hi (travelled l g d n)) (r .low) ≡ true → Stop lo hi r l g d n
+stop :
+    {lo hi : End}
+    → Wide lo hi
+    → (r : Range)
+    → leZ (r .low) (r .high) ≡ true
+    → (l g d : ℤ)
+    → natAbs d ≤ cellSize
+    → (n : ℕ)
+    → notBelow (shifted lo (travelled l g d 0)) (r .high) ≡ true
+    → notAbove (shifted hi (travelled l g d n)) (r .low) ≡ true
+    → Stop lo hi r l g d n
 stop w r o l g d small zero a b = record { j = 0; few = omega arith; not-above = a; not-below = b }
 stop {lo} {hi} w r o l g d small (suc n) a b = go (notBelow (shifted lo (travelled l g d (suc n))) (r .high)) refl (stop w r o l g d small n a)
   where
@@ -269,7 +284,9 @@ pub record Leads (i : ℕ) (l g d : ℤ) (r : Range) : Type 0 where
   pub to-greatest : leZ v g ≡ true
   pub in-range : between (r .low) (r .high) (positionAfter x v d) ≡ true
 
-pub meets-is : (s : Span) (l g d : ℤ) (r : Range) → meets (movedSpan s l g d) r ≡ notBelow (shifted (s .low) (leastTravel l g d)) (r .high) && notAbove (shifted (s .high) (greatestTravel l g d)) (r .low)
+pub meets-is :
+    (s : Span) (l g d : ℤ) (r : Range)
+    → meets (movedSpan s l g d) r ≡ notBelow (shifted (s .low) (leastTravel l g d)) (r .high) && notAbove (shifted (s .high) (greatestTravel l g d)) (r .low)
 unfolding meets
 meets-is s l g d r = rw (moved-low s l g d, moved-high s l g d)
 

@@ -8,13 +8,12 @@ use mathlib.Core.Logic.{_⊎_, inl, inr, ⊎-elim, dite, _↔_}
 use Prim.Native.Nat.{ℕ, zero, suc, _+_, _≤_, _<_}
 use native.Mathlib.Decide.{ℕ-discrete}
 use native.Mathlib.Omega.{arith}
-use lib.IntN.{ℤ}
 use Rattle.grid.specs.Places.{OnGrid}
 use Rattle.grid.specs.Curve.{cell}
 use Rattle.grid.specs.declared.Cell.{Cell}
 use Rattle.methods.specs.Reach.{columnsOf, rowsOf, cellsOfRow, cellsOfRows, cellsOf, wholeGrid}
+use Rattle.methods.specs.Aims.{Aim}
 use Rattle.methods.specs.Methods.{Rows, isReached, keepIf, reached}
-use Rattle.grid.specs.declared.Rect.{Rect}
 use Rattle.methods.specs.declared.Block.{Block}
 
 -- a cell's column and row are the block's
@@ -130,34 +129,34 @@ later : {c : Cell} (t : Bool) (e : Cell) (cs : List Cell) → List·Memᴰ c cs 
 later true e cs m = List·Memᴰ·tail m
 later false e cs m = m
 
-module _ (rows : Rows) (q : Rect) (d : ℤ) where
-  pub reached-in : {c : Cell} (cs : List Cell) → List·Memᴰ c (reached rows q d cs) → List·Memᴰ c cs × (isReached rows q d c ≡ true)
+module _ (rows : Rows) (aim : Aim) where
+  pub reached-in : {c : Cell} (cs : List Cell) → List·Memᴰ c (reached rows aim cs) → List·Memᴰ c cs × (isReached rows aim c ≡ true)
   unfolding reached
   reached-in [] m = absurd (List·Memᴰ·not-nil m)
   reached-in {c} (e ∷ cs) m =
       ⊎-elim
-      (λ (h : (c ≡ e) × (isReached rows q d e ≡ true)). (List·Memᴰ·head (h .0), ap (isReached rows q d) (h .0) ∙ h .1))
+      (λ (h : (c ≡ e) × (isReached rows aim e ≡ true)). (List·Memᴰ·head (h .0), ap (isReached rows aim) (h .0) ∙ h .1))
       (λ k. let r = reached-in cs k in (List·Memᴰ·tail (r .0), r .1))
-      (kept-in (isReached rows q d e) e (reached rows q d cs) m)
+      (kept-in (isReached rows aim e) e (reached rows aim cs) m)
 
-  pub reached-has : {c : Cell} (cs : List Cell) → List·Memᴰ c cs → isReached rows q d c ≡ true → List·Memᴰ c (reached rows q d cs)
+  pub reached-has : {c : Cell} (cs : List Cell) → List·Memᴰ c cs → isReached rows aim c ≡ true → List·Memᴰ c (reached rows aim cs)
   unfolding reached
   reached-has [] m h = absurd (List·Memᴰ·not-nil m)
   reached-has {c} (e ∷ cs) m h =
       ⊎-elim
-      (λ (p : c ≡ e). rw (sym (ap (isReached rows q d) p) ∙ h) (List·Memᴰ·head p))
-      (λ k. later (isReached rows q d e) e (reached rows q d cs) (reached-has cs k h))
+      (λ (p : c ≡ e). rw (sym (ap (isReached rows aim) p) ∙ h) (List·Memᴰ·head p))
+      (λ k. later (isReached rows aim e) e (reached rows aim cs) (reached-has cs k h))
       (List·Memᴰ·cases-cons m)
 
   -- a cell is kept exactly when it is in the list and is reached
-  pub reached-exactly : (cs : List Cell) (c : Cell) → List·Memᴰ c (reached rows q d cs) ↔ (List·Memᴰ c cs × (isReached rows q d c ≡ true))
+  pub reached-exactly : (cs : List Cell) (c : Cell) → List·Memᴰ c (reached rows aim cs) ↔ (List·Memᴰ c cs × (isReached rows aim c ≡ true))
   reached-exactly cs c = (reached-in cs, λ h. reached-has cs (h .0) (h .1))
 
-  pub reached-once : {cs : List Cell} → Once cs → Once (reached rows q d cs)
+  pub reached-once : {cs : List Cell} → Once cs → Once (reached rows aim cs)
   unfolding reached
   reached-once none = none
-  reached-once (one {c} {cs} new k) = go (isReached rows q d c) (reached-once k)
+  reached-once (one {c} {cs} new k) = go (isReached rows aim c) (reached-once k)
     where
-      go : (t : Bool) → Once (reached rows q d cs) → Once (keepIf t c (reached rows q d cs))
+      go : (t : Bool) → Once (reached rows aim cs) → Once (keepIf t c (reached rows aim cs))
       go true h = one (λ m. new (reached-in cs m .0)) h
       go false h = h

@@ -39,14 +39,30 @@ unfolding boundsOf
 no-bounds rows = refl
 
 -- one cell more: r joins its row s to the bounds so far
-pub bounds-of-row : (rows : Rows) (b : Block) (row column : ℕ) → 0 < column → column ≤ b .«last_column» + 1 → {r s before : Row} → r ≡ joined s before → s ≡ rows (cell (column - 1) row) → before ≡ boundsFor rows (rowFrom b row column) → r ≡ boundsFor rows (rowFrom b row (column - 1))
+pub bounds-of-row :
+    (rows : Rows) (b : Block) (row column : ℕ)
+    → 0 < column
+    → column ≤ b .«last_column» + 1
+    → {r s before : Row}
+    → r ≡ joined s before
+    → s ≡ rows (cell (column - 1) row)
+    → before ≡ boundsFor rows (rowFrom b row column)
+    → r ≡ boundsFor rows (rowFrom b row (column - 1))
 unfolding boundsOf
 bounds-of-row rows b row column h k e p q =
     let n : column - 1 + 1 ≡ column = omega arith in
     e ∙ ap₂ joined p q ∙ sym (ap (boundsFor rows) (rw n at (row-before b row (column - 1) (omega arith))))
 
 -- one row of cells more
-pub bounds-of-rows : (rows : Rows) (b : Block) (row : ℕ) → 0 < row → row ≤ b .«last_row» + 1 → {r s before : Row} → r ≡ joined s before → s ≡ boundsFor rows (rowFrom b (row - 1) (b .«first_column»)) → before ≡ boundsFor rows (rowsFrom b row) → r ≡ boundsFor rows (rowsFrom b (row - 1))
+pub bounds-of-rows :
+    (rows : Rows) (b : Block) (row : ℕ)
+    → 0 < row
+    → row ≤ b .«last_row» + 1
+    → {r s before : Row}
+    → r ≡ joined s before
+    → s ≡ boundsFor rows (rowFrom b (row - 1) (b .«first_column»))
+    → before ≡ boundsFor rows (rowsFrom b row)
+    → r ≡ boundsFor rows (rowsFrom b (row - 1))
 bounds-of-rows rows b row h k e p q =
     let n : row - 1 + 1 ≡ row = omega arith in
     let xs = rowFrom b (row - 1) (b .«first_column») in

@@ -1,6 +1,7 @@
 pub mod Axis
 pub mod Blocks
 pub mod Nesting
+pub mod Timeslice
 pub mod Exact
 pub mod Rounds
 pub mod Claims

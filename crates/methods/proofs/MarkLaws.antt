@@ -1,27 +1,21 @@
 -- What the code of mark relies on: marking goes list by list, and a loop that marks what is left of a list marks the whole list.
 -- Assumes nothing.
-use mathlib.Core.Path.{_≡_, refl, sym, ap, _∙_, subst}
+use mathlib.Core.Path.{_≡_, refl, sym, ap, _∙_}
 use mathlib.Core.Bool.{Bool, true, false}
 use mathlib.Core.List.{List, [], _∷_, _++_}
 use mathlib.Core.Logic.{dite}
-use Prim.Native.Nat.{ℕ, _+_, _≤_, _<_, _^_}
+use Prim.Native.Nat.{ℕ, _+_, _≤_, _<_}
 use native.Mathlib.Decide.{ℕ-discrete}
 use native.Mathlib.Omega.{arith}
-use lib.IntN.{ℤ}
 use lib.ListN.{length, getD, set, replicate, length-replicate, getD-replicate}
 use lib.Seq.{getD-set-same, getD-set-other, ext-getD}
-use lib.Signed.{mag}
-use mir.Syntax.{w64}
-use mir.Val.{hbits}
-use Rattle.ints.proofs.Machine.{back, held}
 use Rattle.grid.specs.Units.{cells}
 use Rattle.grid.specs.Curve.{cell}
 use Rattle.grid.specs.declared.Cell.{Cell}
-use Rattle.grid.specs.declared.Rect.{Rect}
 use Rattle.rows.specs.Row.{isEmpty}
+use Rattle.methods.specs.Aims.{Aim}
 use Rattle.methods.specs.Methods.{Rows, isReached, keepIf, reached}
-use Rattle.methods.specs.Reach.{movedCellMeets}
-use Rattle.methods.specs.Chosen.{withCells, IsAsk}
+use Rattle.methods.specs.Chosen.{withCells}
 use Rattle.methods.specs.Marked.{noMarks, Marked}
 use Rattle.methods.specs.declared.Block.{Block}
 use Rattle.methods.proofs.Passes.{rowFrom, row-before, row-none, rowsFrom, rows-before, rows-none}
@@ -75,51 +69,50 @@ module _ {marks₀ : List ℕ} {all : List Cell} {marks : List ℕ} {rest : List
 
 -- ---- the cells that are reached
 
-module _ (rows : Rows) (q : Rect) (d : ℤ) where
+module _ (rows : Rows) (aim : Aim) where
   kept-append : (t : Bool) (c : Cell) (xs ys : List Cell) → keepIf t c (xs ++ ys) ≡ keepIf t c xs ++ ys
   kept-append true c xs ys = refl
   kept-append false c xs ys = refl
 
-  pub reached-append : (xs ys : List Cell) → reached rows q d (xs ++ ys) ≡ reached rows q d xs ++ reached rows q d ys
+  pub reached-append : (xs ys : List Cell) → reached rows aim (xs ++ ys) ≡ reached rows aim xs ++ reached rows aim ys
   unfolding reached
   reached-append [] ys = refl
   reached-append (x ∷ xs) ys =
-      ap (keepIf (isReached rows q d x) x) (reached-append xs ys) ∙ kept-append (isReached rows q d x) x (reached rows q d xs) (reached rows q d ys)
+      ap (keepIf (isReached rows aim x) x) (reached-append xs ys) ∙ kept-append (isReached rows aim x) x (reached rows aim xs) (reached rows aim ys)
 
   -- as the loops pass them
-  pub reached-row-before : (b : Block) (row column : ℕ) → column < b .«last_column» + 1 → reached rows q d (rowFrom b row column) ≡ reached rows q d (cell column row ∷ []) ++ reached rows q d (rowFrom b row (column + 1))
+  pub reached-row-before :
+      (b : Block) (row column : ℕ)
+      → column < b .«last_column» + 1
+      → reached rows aim (rowFrom b row column) ≡ reached rows aim (cell column row ∷ []) ++ reached rows aim (rowFrom b row (column + 1))
   reached-row-before b row column h =
-      ap (reached rows q d) (row-before b row column h) ∙ reached-append (cell column row ∷ []) (rowFrom b row (column + 1))
+      ap (reached rows aim) (row-before b row column h) ∙ reached-append (cell column row ∷ []) (rowFrom b row (column + 1))
 
-  pub reached-row-none : (b : Block) (row column : ℕ) → b .«last_column» + 1 ≤ column → reached rows q d (rowFrom b row column) ≡ []
+  pub reached-row-none : (b : Block) (row column : ℕ) → b .«last_column» + 1 ≤ column → reached rows aim (rowFrom b row column) ≡ []
   unfolding reached
   reached-row-none b row column h = rw (row-none b row column h)
 
-  pub reached-rows-before : (b : Block) (row : ℕ) → row < b .«last_row» + 1 → reached rows q d (rowsFrom b row) ≡ reached rows q d (rowFrom b row (b .«first_column»)) ++ reached rows q d (rowsFrom b (row + 1))
+  pub reached-rows-before :
+      (b : Block) (row : ℕ)
+      → row < b .«last_row» + 1
+      → reached rows aim (rowsFrom b row) ≡ reached rows aim (rowFrom b row (b .«first_column»)) ++ reached rows aim (rowsFrom b (row + 1))
   reached-rows-before b row h =
-      ap (reached rows q d) (rows-before b row h) ∙ reached-append (rowFrom b row (b .«first_column»)) (rowsFrom b (row + 1))
+      ap (reached rows aim) (rows-before b row h) ∙ reached-append (rowFrom b row (b .«first_column»)) (rowsFrom b (row + 1))
 
-  pub reached-rows-none : (b : Block) (row : ℕ) → b .«last_row» + 1 ≤ row → reached rows q d (rowsFrom b row) ≡ []
+  pub reached-rows-none : (b : Block) (row : ℕ) → b .«last_row» + 1 ≤ row → reached rows aim (rowsFrom b row) ≡ []
   unfolding reached
   reached-rows-none b row h = rw (rows-none b row h)
 
-  pub reached-one : (c : Cell) → isReached rows q d c ≡ true → reached rows q d (c ∷ []) ≡ c ∷ []
+  pub reached-one : (c : Cell) → isReached rows aim c ≡ true → reached rows aim (c ∷ []) ≡ c ∷ []
   unfolding reached
   reached-one c e = rw e
 
-  pub reached-not : (c : Cell) → isReached rows q d c ≡ false → reached rows q d (c ∷ []) ≡ []
+  pub reached-not : (c : Cell) → isReached rows aim c ≡ false → reached rows aim (c ∷ []) ≡ []
   unfolding reached
   reached-not c e = rw e
 
-  pub empty-not-reached : (c : Cell) → isEmpty (rows c) ≡ true → false ≡ isReached rows q d c
+  pub empty-not-reached : (c : Cell) → isEmpty (rows c) ≡ true → false ≡ isReached rows aim c
   empty-not-reached c e = rw e
 
-  pub reached-is : (c : Cell) → isEmpty (rows c) ≡ false → movedCellMeets c (rows c) q d ≡ isReached rows q d c
+  pub reached-is : (c : Cell) → isEmpty (rows c) ≡ false → aim .meets c (rows c) ≡ isReached rows aim c
   reached-is c e = rw e
-
--- d as a call passes it
-pub ask-back : {q : Rect} {d : ℤ} → IsAsk q d → mag d < 2 ^ hbits w64 → IsAsk q (back w64 d)
-ask-back {q} {d} a h = rw (held w64 d h) a
-
-pub marked-held : {before after : List ℕ} (f : ℤ → List Cell) (d : ℤ) → mag d < 2 ^ hbits w64 → Marked before (f (back w64 d)) after → Marked before (f d) after
-marked-held {before} {after} f d h m = subst (λ (z : ℤ). Marked before (f z) after) (held w64 d h) m

@@ -1,44 +1,35 @@
--- How the blocks of the methods lie in one another: expanded by narrower bounds a rectangle has a smaller block, and the bounds of a smaller
--- block are narrower. So the blocks of the rounds shrink, and a cell from which some float reaches the rectangle stays in all of them.
+-- How the blocks of the methods lie in one another, for any fair aim: expanded by narrower bounds a rectangle has a smaller block, and the bounds of a
+-- smaller block are narrower. So the blocks of the rounds shrink, and a cell that is reached stays in all of them.
 -- Assumes nothing.
 use mathlib.Core.Path.{_≡_, sym, _∙_, subst}
-use mathlib.Core.Bool.{true, false}
+use mathlib.Core.Bool.{true, false, not}
 use mathlib.Core.List.{map, List·Memᴰ, Memᴰ·map, Memᴰ·of-map, Memᴰ·cast}
 use Prim.Native.Nat.{ℕ, _+_, _≤_, _<_}
 use native.Mathlib.Omega.{arith}
-use lib.IntN.{ℤ}
-use Rattle.ints.specs.Whole.{between}
+use borrow.Author.Tests.{not-true}
 use Rattle.ints.proofs.Parts.{true-false}
 use Rattle.ints.proofs.Truth.{and-left, and-right}
 use Rattle.grid.specs.Places.{OnGrid}
 use Rattle.grid.specs.declared.Cell.{Cell}
-use Rattle.grid.proofs.Places.{column-on, in-no-other-cell}
-use Rattle.rows.specs.Row.{isEmpty, validRow, boundsOf}
-use Rattle.rows.specs.declared.Row.{Row}
-use Rattle.rows.proofs.RowLaws.{Within, within-trans, held-within, holds-not-empty, Ranged, valid-ranged, AllValid, bounds-hold, bounds-grow, bounds-valid, bounds-none}
-use Rattle.grid.specs.Reports.{inRect}
-use Rattle.methods.specs.Reach.{expandedRect, blockOf, wholeGrid, columnsOf, rowsOf, cellsOf}
-use Rattle.methods.specs.Methods.{Rows, boundsIn, phaseBounds}
-use Rattle.methods.specs.Claims.{Asked, Reaches}
 use Rattle.grid.specs.declared.Rect.{Rect}
+use Rattle.grid.proofs.Places.{column-on}
+use Rattle.rows.specs.Row.{isEmpty, validRow}
+use Rattle.rows.specs.declared.Row.{Row}
+use Rattle.rows.proofs.RowLaws.{Within, joined-absorbs, AllValid, bounds-hold, bounds-grow, bounds-valid, bounds-none}
+use Rattle.methods.specs.Reach.{blockOf, wholeGrid, columnsOf, rowsOf, cellsOf}
+use Rattle.methods.specs.Aims.{Aim}
+use Rattle.methods.specs.Fair.{InOrder, RectWithin, Fair}
+use Rattle.methods.specs.Methods.{Rows, boundsIn, phaseBounds, isReached}
+use Rattle.methods.specs.Claims.{ValidRows}
 use Rattle.methods.specs.declared.Block.{Block}
-use Rattle.methods.proofs.Axis.{expanded-holds, expanded-grows, expanded-ordered, column-grows, columns-grow}
-use Rattle.methods.proofs.Blocks.{InBlock, BlockWithin, cells-within, within-grid-on}
-
--- a position in a rectangle is in its range along each axis
-pub rect-x : (q : Rect) (x y : ℤ) → inRect q x y ≡ true → between (q .x .low) (q .x .high) x ≡ true
-unfolding inRect
-rect-x q x y h = and-left (between (q .x .low) (q .x .high) x) (between (q .y .low) (q .y .high) y) h
-
-pub rect-y : (q : Rect) (x y : ℤ) → inRect q x y ≡ true → between (q .y .low) (q .y .high) y ≡ true
-unfolding inRect
-rect-y q x y h = and-right (between (q .x .low) (q .x .high) x) (between (q .y .low) (q .y .high) y) h
+use Rattle.methods.proofs.Axis.{column-grows}
+use Rattle.methods.proofs.Blocks.{InBlock, BlockWithin, cells-in, cells-within, within-grid-on}
 
 -- ---- blocks of expanded rectangles
 
 -- the block of the rectangle expanded by bounds that are not missing
-abbrev pub expand : Rect → ℤ → Row → Block
-expand q d w = blockOf (expandedRect q w d)
+abbrev pub expand : Aim → Row → Block
+expand aim w = blockOf (aim .expanded w)
 
 pub record Ordered (b : Block) : Type 0 where
   pub columns : b .«first_column» ≤ b .«last_column»
@@ -48,12 +39,22 @@ pub block-on : (r : Rect) → BlockWithin (blockOf r) wholeGrid
 unfolding blockOf
 block-on r = omega (arith, column-on (r .x .high), column-on (r .y .high))
 
-pub expand-grows : (q : Rect) (d : ℤ) {v w : Row} → Within v w → BlockWithin (expand q d v) (expand q d w)
-unfolding blockOf expandedRect
-expand-grows q d {v} {w} h =
-    let x = columns-grow (expanded-grows (q .x) (v .«least_vx») (v .«greatest_vx») (w .«least_vx») (w .«greatest_vx») d (h .least-x) (h .greatest-x)) in
-    let y = columns-grow (expanded-grows (q .y) (v .«least_vy») (v .«greatest_vy») (w .«least_vy») (w .«greatest_vy») d (h .least-y) (h .greatest-y)) in
-    record { columns-from = x .0; columns-to = x .1; rows-from = y .0; rows-to = y .1 }
+block-grows : {p q : Rect} → RectWithin p q → BlockWithin (blockOf p) (blockOf q)
+unfolding blockOf
+block-grows h =
+    record {
+      columns-from = column-grows _ _ (h .x-from);
+      columns-to = column-grows _ _ (h .x-to);
+      rows-from = column-grows _ _ (h .y-from);
+      rows-to = column-grows _ _ (h .y-to);
+    }
+
+block-ordered : {q : Rect} → InOrder q → Ordered (blockOf q)
+unfolding blockOf
+block-ordered h = record { columns = column-grows _ _ (h .x-ordered); rows = column-grows _ _ (h .y-ordered) }
+
+pub expand-grows : {aim : Aim} → Fair aim → {v w : Row} → Within v w → BlockWithin (expand aim v) (expand aim w)
+expand-grows fair {v} {w} h = block-grows (fair .grows v w (joined-absorbs h))
 
 pub same-block : {a b : Block} → a .«first_column» ≡ b .«first_column» → a .«last_column» ≡ b .«last_column» → a .«first_row» ≡ b .«first_row» → a .«last_row» ≡ b .«last_row» → a ≡ b
 same-block p q r s = λ i. record { «first_column» = p i; «last_column» = q i; «first_row» = r i; «last_row» = s i }
@@ -80,69 +81,65 @@ bounds-in-grow rows {a} {b} h =
     (λ r m. let k = Memᴰ·of-map rows (cellsOf a) m in Memᴰ·cast (sym (k .2)) (Memᴰ·map rows (cells-within h (k .1))))
 
 -- the block of the next round, and a block that lies on the grid and that the next round shrinks or keeps
-abbrev pub next : Rows → Rect → ℤ → Block → Block
-next rows q d b = expand q d (boundsIn rows b)
+abbrev pub next : Rows → Aim → Block → Block
+next rows aim b = expand aim (boundsIn rows b)
 
-pub record Shrinking (rows : Rows) (q : Rect) (d : ℤ) (b : Block) : Type 0 where
-  pub inside : BlockWithin (next rows q d b) b
+pub record Shrinking (rows : Rows) (aim : Aim) (b : Block) : Type 0 where
+  pub inside : BlockWithin (next rows aim b) b
   pub on : BlockWithin b wholeGrid
   pub ordered : Ordered b
 
-module _ (rows : Rows) (q : Rect) (d : ℤ) (asked : Asked rows q d) where
+-- ---- cells that are reached
+
+module _ (rows : Rows) (aim : Aim) (c : Cell) (r : isReached rows aim c ≡ true) where
+  pub reached-meets : aim .meets c (rows c) ≡ true
+  reached-meets = and-right (not (isEmpty (rows c))) _ r
+
+  pub reached-some : isEmpty (rows c) ≡ false
+  reached-some = not-true (isEmpty (rows c)) (and-left _ (aim .meets c (rows c)) r)
+
+module _ (rows : Rows) (valid : ValidRows rows) where
   pub all-valid : {b : Block} → BlockWithin b wholeGrid → AllValid (map rows (cellsOf b))
   all-valid {b} on r m =
       let k = Memᴰ·of-map rows (cellsOf b) m in
-      subst (λ (z : Row). validRow z ≡ true) (k .2) (asked .valid (k .0) (within-grid-on on (k .1)))
+      subst (λ (z : Row). validRow z ≡ true) (k .2) (valid (k .0) (within-grid-on on (k .1)))
 
-  pub bounds-in-ranged : {b : Block} → BlockWithin b wholeGrid → isEmpty (boundsIn rows b) ≡ false → Ranged (boundsIn rows b)
+  bounds-in-valid : {b : Block} → BlockWithin b wholeGrid → validRow (boundsIn rows b) ≡ true
   unfolding boundsIn
-  bounds-in-ranged {b} on e = valid-ranged (boundsOf (map rows (cellsOf b))) (bounds-valid (map rows (cellsOf b)) (all-valid on)) e
+  bounds-in-valid {b} on = bounds-valid (map rows (cellsOf b)) (all-valid on)
 
-  pub expand-ordered : {w : Row} → Ranged w → Ordered (expand q d w)
-  unfolding blockOf expandedRect
-  expand-ordered {w} k =
-      record {
-        columns = column-grows _ _ (expanded-ordered (q .x) (w .«least_vx») (w .«greatest_vx») d (asked .x-ordered) (k .x .order));
-        rows = column-grows _ _ (expanded-ordered (q .y) (w .«least_vy») (w .«greatest_vy») d (asked .y-ordered) (k .y .order));
-      }
-
-  -- a cell from which some float reaches the rectangle is in the block of any bounds that hold its row
-  pub expand-holds : {c : Cell} → OnGrid c → Reaches rows q d c → {w : Row} → Within (rows c) w → InBlock (expand q d w) c
-  unfolding blockOf expandedRect
-  expand-holds {c} on r {w} h =
-      let k = within-trans (held-within (r .in-row)) h in
-      let x = expanded-holds (q .x) (w .«least_vx») (w .«greatest_vx») (r .x) (r .vx) d (k .least-x) (k .greatest-x) (rect-x q _ _ (r .in-rectangle)) in
-      let y = expanded-holds (q .y) (w .«least_vy») (w .«greatest_vy») (r .y) (r .vy) d (k .least-y) (k .greatest-y) (rect-y q _ _ (r .in-rectangle)) in
-      subst (InBlock (expand q d w)) (in-no-other-cell c on (r .x) (r .y) (r .in-cell))
-      (record {
-        from-column = column-grows _ (r .x) (x .0);
-        to-column = column-grows (r .x) _ (x .1);
-        from-row = column-grows _ (r .y) (y .0);
-        to-row = column-grows (r .y) _ (y .1);
-      })
-
-  -- ---- blocks that a round shrinks
-
-  pub naive-shrinking : isEmpty (phaseBounds rows) ≡ false → Shrinking rows q d (expand q d (phaseBounds rows))
-  naive-shrinking e =
-      let on = block-on (expandedRect q (phaseBounds rows) d) in
-      record {
-        inside = expand-grows q d (bounds-in-grow rows on);
-        on = on;
-        ordered = expand-ordered (bounds-in-ranged {b = wholeGrid} (omega arith) e);
-      }
-
-  pub next-shrinking : {b : Block} → Shrinking rows q d b → isEmpty (boundsIn rows b) ≡ false → Shrinking rows q d (next rows q d b)
-  next-shrinking {b} s e =
-      record {
-        inside = expand-grows q d (bounds-in-grow rows (s .inside));
-        on = block-on (expandedRect q (boundsIn rows b) d);
-        ordered = expand-ordered (bounds-in-ranged (s .on) e);
-      }
-
-  -- the bounds of a block with such a cell are not missing
-  pub not-missing : {c : Cell} → Reaches rows q d c → {b : Block} → BlockWithin b wholeGrid → List·Memᴰ c (cellsOf b) → isEmpty (boundsIn rows b) ≡ true → ⊥
+  -- the bounds of a block with a cell that is reached are not missing
+  pub not-missing : (aim : Aim) {c : Cell} → isReached rows aim c ≡ true → {b : Block} → BlockWithin b wholeGrid → List·Memᴰ c (cellsOf b) → isEmpty (boundsIn rows b) ≡ true → ⊥
   unfolding boundsIn
-  not-missing {c} r {b} on m e =
+  not-missing aim {c} r {b} on m e =
       let k = bounds-none (map rows (cellsOf b)) (all-valid on) e (rows c) (Memᴰ·map rows m) in
-      true-false (sym k ∙ holds-not-empty (rows c) (r .vx) (r .vy) (r .in-row))
+      true-false (sym k ∙ reached-some rows aim c r)
+
+  module _ (aim : Aim) (fair : Fair aim) where
+    expand-ordered : {b : Block} → BlockWithin b wholeGrid → isEmpty (boundsIn rows b) ≡ false → Ordered (next rows aim b)
+    expand-ordered {b} on e = block-ordered (fair .ordered (boundsIn rows b) (bounds-in-valid on) e)
+
+    -- a cell that is reached is in the block of any bounds that hold its row
+    pub expand-holds : {c : Cell} → OnGrid c → isReached rows aim c ≡ true → {w : Row} → Within (rows c) w → InBlock (expand aim w) c
+    expand-holds {c} on r {w} h =
+        cells-in (expand aim w)
+        (cells-within (expand-grows fair h) (fair .in-own-block c on (rows c) (reached-meets rows aim c r)))
+
+    -- ---- blocks that a round shrinks
+
+    pub naive-shrinking : isEmpty (phaseBounds rows) ≡ false → Shrinking rows aim (expand aim (phaseBounds rows))
+    naive-shrinking e =
+        let on = block-on (aim .expanded (phaseBounds rows)) in
+        record {
+          inside = expand-grows fair (bounds-in-grow rows on);
+          on = on;
+          ordered = expand-ordered {b = wholeGrid} (omega arith) e;
+        }
+
+    pub next-shrinking : {b : Block} → Shrinking rows aim b → isEmpty (boundsIn rows b) ≡ false → Shrinking rows aim (next rows aim b)
+    next-shrinking {b} s e =
+        record {
+          inside = expand-grows fair (bounds-in-grow rows (s .inside));
+          on = block-on (aim .expanded (boundsIn rows b));
+          ordered = expand-ordered (s .on) e;
+        }

@@ -10,21 +10,25 @@ use borrow.Author.Tests.{eq-eqb, ne-eqb}
 use lib.IntN.{ℤ, pos, negsuc, natAbs, _-ℤ_, _*ℤ_}
 use lib.Signed.{leZ, nonNeg, mag}
 use mir.Syntax.{w16, w64}
-use mir.Val.{hbits}
+use mir.Val.{hbits, SFits}
 use Rattle.ints.proofs.Parts.{signed, abs, one-part, add, sub, true-false}
-use Rattle.ints.proofs.Machine.{back, held, both, neither, tested₁}
+use Rattle.ints.proofs.Machine.{back, fits, held, both, neither, tested₁}
 use Rattle.ints.proofs.Truth.{same-truth, and-left, and-right}
 use Rattle.grid.specs.Units.{cellSize}
 use Rattle.grid.specs.Places.{End, Span, endless, at, cellSpan, notBelow, notAbove}
 use Rattle.grid.specs.Reports.{isPosition}
+use Rattle.grid.specs.declared.Query.{Query}
 use Rattle.grid.specs.declared.Range.{Range}
 use Rattle.grid.specs.declared.Rect.{Rect}
 use Rattle.rows.specs.Row.{validRow}
+use Rattle.rows.specs.Phases.{referenceTime, sinceReference}
 use Rattle.rows.specs.declared.Row.{Row}
 use Rattle.rows.proofs.RowLaws.{Ranged, valid-cases}
 use Rattle.methods.specs.Reach.{expandedRange, movedSpan, meets}
 use Rattle.methods.specs.Chosen.{IsAsk}
 use Rattle.methods.specs.Small.{SmallAxis}
+use Rattle.methods.specs.Given.{CanSee}
+use Rattle.methods.specs.declared.Slice.{Slice}
 use Rattle.methods.proofs.Axis.{leastTravel, greatestTravel, expanded-is, shifted, meets-is}
 
 -- ---- expanding
@@ -104,28 +108,37 @@ speeds-small r v =
     record { least-x = omega arith; greatest-x = omega arith; least-y = omega arith; greatest-y = omega arith })
     (valid-cases r v)
 
-module _ {q : Rect} {d : ℤ} (a : IsAsk q d) (r : Row) (v : validRow r ≡ true) where
-  pub small-x : SmallAxis (q .x) (r .«least_vx») (r .«greatest_vx») d
+module _ {s : Slice} (a : IsAsk s) (r : Row) (v : validRow r ≡ true) where
+  pub small-x : SmallAxis (s .rect .x) (r .«least_vx») (r .«greatest_vx») (s .d)
   small-x =
-      let s = speeds-small r v in
+      let k = speeds-small r v in
       record {
-        small-low = position-small (q .x .low) (a .low-x-in-sea);
-        small-high = position-small (q .x .high) (a .high-x-in-sea);
-        small-least = s .least-x;
-        small-greatest = s .greatest-x;
-        small-d = d-small d (a .not-early) (a .not-late);
+        small-low = position-small (s .rect .x .low) (a .low-x-in-sea);
+        small-high = position-small (s .rect .x .high) (a .high-x-in-sea);
+        small-least = k .least-x;
+        small-greatest = k .greatest-x;
+        small-d = d-small (s .d) (a .is-slice .not-early) (a .is-slice .not-late);
       }
 
-  pub small-y : SmallAxis (q .y) (r .«least_vy») (r .«greatest_vy») d
+  pub small-y : SmallAxis (s .rect .y) (r .«least_vy») (r .«greatest_vy») (s .d)
   small-y =
-      let s = speeds-small r v in
+      let k = speeds-small r v in
       record {
-        small-low = position-small (q .y .low) (a .low-y-in-sea);
-        small-high = position-small (q .y .high) (a .high-y-in-sea);
-        small-least = s .least-y;
-        small-greatest = s .greatest-y;
-        small-d = d-small d (a .not-early) (a .not-late);
+        small-low = position-small (s .rect .y .low) (a .low-y-in-sea);
+        small-high = position-small (s .rect .y .high) (a .high-y-in-sea);
+        small-least = k .least-y;
+        small-greatest = k .greatest-y;
+        small-d = d-small (s .d) (a .is-slice .not-early) (a .is-slice .not-late);
       }
+
+-- two times in range are no further apart than the last time
+pub since-fits : {query : Query} {p : ℕ} → CanSee query p → SFits w64 (sinceReference p (query .time))
+unfolding referenceTime
+since-fits {query} {p} can =
+    let s = query .time in
+    let low = and-left (leZ (pos 0) s) (leZ s (pos 999999999)) (can .is-time) in
+    let high = and-right (leZ (pos 0) s) (leZ s (pos 999999999)) (can .is-time) in
+    fits (omega (arith, signed, sub s (pos (3600 * p)), one-part s, can .small-phase))
 
 -- ---- numbers read back from their bits: u is v widened to 64 bits
 
@@ -138,25 +151,65 @@ wide-is u v h e k = held w64 u h ∙ e ∙ held w16 v k
 pub small-wide : (u v : ℤ) (n : ℕ) → mag u < 2 ^ hbits w64 → u ≡ back w16 v → mag v < 2 ^ hbits w16 → natAbs v ≤ n → natAbs (back w64 u) ≤ n
 small-wide u v n h e k l = rw (wide-is u v h e k) l
 
-pub before-is : (r p u v d : ℤ) → mag r < 2 ^ hbits w64 → r ≡ back w64 p -ℤ back w64 u *ℤ back w64 d → mag p < 2 ^ hbits w64 → mag d < 2 ^ hbits w64 → mag u < 2 ^ hbits w64 → u ≡ back w16 v → mag v < 2 ^ hbits w16 → back w64 r ≡ p -ℤ v *ℤ d
+pub before-is :
+    (r p u v d : ℤ)
+    → mag r < 2 ^ hbits w64
+    → r ≡ back w64 p -ℤ back w64 u *ℤ back w64 d
+    → mag p < 2 ^ hbits w64
+    → mag d < 2 ^ hbits w64
+    → mag u < 2 ^ hbits w64
+    → u ≡ back w16 v
+    → mag v < 2 ^ hbits w16
+    → back w64 r ≡ p -ℤ v *ℤ d
 before-is r p u v d h e hp hd hu ev hv = held w64 r h ∙ e ∙ simp (held w64 p hp, held w64 d hd, wide-is u v hu ev hv)
 
 -- two speeds of a row and d, as a call passes them
 pub axis-back : {r : Range} {l g d : ℤ} → SmallAxis r l g d → mag l < 2 ^ hbits w16 → mag g < 2 ^ hbits w16 → mag d < 2 ^ hbits w64 → SmallAxis r (back w16 l) (back w16 g) (back w64 d)
 axis-back {r} {l} {g} {d} s hl hg hd = rw (held w16 l hl, held w16 g hg, held w64 d hd) s
 
-pub axis-called : {X : Type 0} (f : ℤ → ℤ → ℤ → X) (r : X) (l g d : ℤ) → r ≡ f (back w16 l) (back w16 g) (back w64 d) → mag l < 2 ^ hbits w16 → mag g < 2 ^ hbits w16 → mag d < 2 ^ hbits w64 → r ≡ f l g d
+axis-called : {X : Type 0} (f : ℤ → ℤ → ℤ → X) (r : X) (l g d : ℤ) → r ≡ f (back w16 l) (back w16 g) (back w64 d) → mag l < 2 ^ hbits w16 → mag g < 2 ^ hbits w16 → mag d < 2 ^ hbits w64 → r ≡ f l g d
 axis-called f r l g d e hl hg hd = e ∙ (λ i. f (held w16 l hl i) (held w16 g hg i) (held w64 d hd i))
+
+pub expanded-called :
+    (range r : Range) (l g d : ℤ)
+    → r ≡ expandedRange range (back w16 l) (back w16 g) (back w64 d)
+    → mag l < 2 ^ hbits w16
+    → mag g < 2 ^ hbits w16
+    → mag d < 2 ^ hbits w64
+    → r ≡ expandedRange range l g d
+expanded-called range = axis-called (expandedRange range)
+
+pub meets-called :
+    (i : ℕ) (range : Range) (r : Bool) (l g d : ℤ)
+    → r ≡ meets (movedSpan (cellSpan i) (back w16 l) (back w16 g) (back w64 d)) range
+    → mag l < 2 ^ hbits w16
+    → mag g < 2 ^ hbits w16
+    → mag d < 2 ^ hbits w64
+    → r ≡ meets (movedSpan (cellSpan i) l g d) range
+meets-called i range = axis-called (λ (l g d : ℤ). meets (movedSpan (cellSpan i) l g d) range)
 
 -- the two tests of a column against the expanded range, as calls gave them back
 module _ (i : ℕ) (l g d : ℤ) (range reach : Range) (s : Bool) where
-  pub meets-both : (t : Bool) → reach ≡ expandedRange range l g d → s ≡ true → s ≡ notBelow (cellSpan i .low) (back w64 (reach .high)) → mag (reach .high) < 2 ^ hbits w64 → t ≡ notAbove (cellSpan i .high) (back w64 (reach .low)) → mag (reach .low) < 2 ^ hbits w64 → t ≡ meets (movedSpan (cellSpan i) l g d) range
+  pub meets-both :
+      (t : Bool)
+      → reach ≡ expandedRange range l g d
+      → s ≡ true
+      → s ≡ notBelow (cellSpan i .low) (back w64 (reach .high))
+      → mag (reach .high) < 2 ^ hbits w64
+      → t ≡ notAbove (cellSpan i .high) (back w64 (reach .low))
+      → mag (reach .low) < 2 ^ hbits w64
+      → t ≡ meets (movedSpan (cellSpan i) l g d) range
   meets-both t e taken p h q k =
       both s t _ _ taken (tested₁ w64 (notBelow (cellSpan i .low)) s (reach .high) p h) (tested₁ w64 (notAbove (cellSpan i .high)) t (reach .low) q k)
       ∙ ap (λ (r : Range). notBelow (cellSpan i .low) (r .high) && notAbove (cellSpan i .high) (r .low)) e
       ∙ sym (meets-expanded (cellSpan i) l g d range)
 
-  pub meets-neither : reach ≡ expandedRange range l g d → s ≡ false → s ≡ notBelow (cellSpan i .low) (back w64 (reach .high)) → mag (reach .high) < 2 ^ hbits w64 → s ≡ meets (movedSpan (cellSpan i) l g d) range
+  pub meets-neither :
+      reach ≡ expandedRange range l g d
+      → s ≡ false
+      → s ≡ notBelow (cellSpan i .low) (back w64 (reach .high))
+      → mag (reach .high) < 2 ^ hbits w64
+      → s ≡ meets (movedSpan (cellSpan i) l g d) range
   meets-neither e failed p h =
       neither s _ (notAbove (cellSpan i .high) (reach .low)) failed (tested₁ w64 (notBelow (cellSpan i .low)) s (reach .high) p h)
       ∙ ap (λ (r : Range). notBelow (cellSpan i .low) (r .high) && notAbove (cellSpan i .high) (r .low)) e

@@ -46,7 +46,14 @@ countedCells g [] = 0
 countedCells g (c ∷ cs) = cond (g c) 1 0 + countedCells g cs
 
 -- numbers counted by a test, and cells counted by a test that agrees with it, where the cells are each once and each number that passes is one's
-pub cells-counted : (g : Cell → Bool) {cs : List Cell} → Once cs → ((c : Cell) → List·Memᴰ c cs → OnGrid c) → (f : ℕ → Bool) → ((c : Cell) → List·Memᴰ c cs → f (curveNumber c) ≡ g c) → ((n : ℕ) → n < cells → f n ≡ true → List·Memᴰ (cellOfNumber n) cs) → counted f 0 cells ≡ countedCells g cs
+pub cells-counted :
+    (g : Cell → Bool) {cs : List Cell}
+    → Once cs
+    → ((c : Cell) → List·Memᴰ c cs → OnGrid c)
+    → (f : ℕ → Bool)
+    → ((c : Cell) → List·Memᴰ c cs → f (curveNumber c) ≡ g c)
+    → ((n : ℕ) → n < cells → f n ≡ true → List·Memᴰ (cellOfNumber n) cs)
+    → counted f 0 cells ≡ countedCells g cs
 unfolding countedCells
 cells-counted g none on f agree all =
     counted-none f 0 cells (λ i l h. false-of (f i) (λ e. List·Memᴰ·not-nil (all i (omega arith) e)))

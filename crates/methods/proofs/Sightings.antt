@@ -13,5 +13,7 @@ use Rattle.methods.specs.Methods.{boundsIn, expandedBlock, iterated, rea
 use Rattle.methods.specs.Sightings.{sightings, rowsP11, choiceP11}
 
 pub all-as-said : map (λ (s : Sighting). s .given) sightings ≡ map (λ (s : Sighting). s .said) sightings
-unfolding sightings Grid.sightings columnOf cellSpan numberAt minZ maxZ eqZ joined sameRow isEmpty boundsOf expandedRange expandedRect blockOf cellsOfRow cellsOfRows cellsOf movedSpan meets movedCellMeets boundsIn expandedBlock iterated reached choice rowsP11 choiceP11
+unfolding sightings Grid.sightings columnOf cellSpan numberAt minZ maxZ eqZ joined sameRow isEmpty boundsOf
+    expandedRange expandedRect blockOf cellsOfRow cellsOfRows cellsOf movedSpan meets movedCellMeets
+    boundsIn expandedBlock iterated reached choice rowsP11 choiceP11
 all-as-said = refl

@@ -11,10 +11,12 @@ use Rattle.grid.specs.Units.{cells}
 use Rattle.grid.specs.Curve.{curveNumber}
 use Rattle.grid.specs.Reports.{isPosition}
 use Rattle.grid.specs.declared.Cell.{Cell}
-use Rattle.grid.specs.declared.Rect.{Rect}
 use Rattle.rows.specs.Phases.{slots}
 use Rattle.rows.specs.Table.{tableWords, rowAt, validTable}
+use Rattle.methods.specs.Aims.{Aim}
+use Rattle.methods.specs.Fair.{InOrder}
 use Rattle.methods.specs.Methods.{Rows, choice}
+use Rattle.methods.specs.declared.Slice.{Slice}
 
 -- the rows of a slot, by cell
 abbrev pub rowsOfSlot : List ℤ → ℕ → Rows
@@ -35,18 +37,21 @@ pub record IsSlot (t : List ℤ) (slot : ℕ) : Type 0 where
   pub valid-rows : validTable t ≡ true
   pub one-of-three : slot < slots
 
--- a rectangle of the sea with its corners in order, and d from -3,600 to 17,999
-pub record IsAsk (q : Rect) (d : ℤ) : Type 0 where
-  pub low-x-in-sea : isPosition (q .x .low) ≡ true
-  pub high-x-in-sea : isPosition (q .x .high) ≡ true
-  pub low-y-in-sea : isPosition (q .y .low) ≡ true
-  pub high-y-in-sea : isPosition (q .y .high) ≡ true
-  pub x-ordered : leZ (q .x .low) (q .x .high) ≡ true
-  pub y-ordered : leZ (q .y .low) (q .y .high) ≡ true
-  pub not-early : leZ (negsuc 3599) d ≡ true
-  pub not-late : leZ d (pos 17999) ≡ true
+-- a timeslice that document 01 allows, in the sea or not: corners in order, and d from -3,600 to 17,999
+pub record IsSlice (s : Slice) : Type 0 where
+  pub in-order : InOrder (s .rect)
+  pub not-early : leZ (negsuc 3599) (s .d) ≡ true
+  pub not-late : leZ (s .d) (pos 17999) ≡ true
+
+-- one whose rectangle has its corners in the sea
+pub record IsAsk (s : Slice) : Type 0 where
+  pub low-x-in-sea : isPosition (s .rect .x .low) ≡ true
+  pub high-x-in-sea : isPosition (s .rect .x .high) ≡ true
+  pub low-y-in-sea : isPosition (s .rect .y .low) ≡ true
+  pub high-y-in-sea : isPosition (s .rect .y .high) ≡ true
+  pub is-slice : IsSlice s
 
 -- what choosing gives back: the marks of the chosen cells and the rounds, and no count of the cells
-pub record ChosenBy (method : ℕ) (t : List ℤ) (slot : ℕ) (q : Rect) (d : ℤ) (marks : List ℕ) (rounds : ℕ) : Type 0 where
-  pub marks-are : marks ≡ marksOf (choice method (rowsOfSlot t slot) q d .cells)
-  pub rounds-are : rounds ≡ choice method (rowsOfSlot t slot) q d .rounds
+pub record ChosenBy (method : ℕ) (t : List ℤ) (slot : ℕ) (aim : Aim) (marks : List ℕ) (rounds : ℕ) : Type 0 where
+  pub marks-are : marks ≡ marksOf (choice method (rowsOfSlot t slot) aim .cells)
+  pub rounds-are : rounds ≡ choice method (rowsOfSlot t slot) aim .rounds

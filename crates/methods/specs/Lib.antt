@@ -1,7 +1,10 @@
 pub mod Reach
+pub mod Aims
+pub mod Fair
 pub mod Methods
 pub mod Chosen
 pub mod Small
 pub mod Marked
+pub mod Given
 pub mod Claims
 pub mod Sightings

@@ -1,5 +1,5 @@
--- What a rectangle and a cell reach over d seconds at the speeds of a row: document 01, "The four ways to choose cells", the two rules "per
--- axis" and the block of a rectangle. Positions are centimetres, speeds centimetres per second; d is the asked time less a reference time.
+-- What a timeslice and a cell reach at the speeds of a row: document 01, "The four ways to choose cells", the two rules "per axis" and the block
+-- of a rectangle. Positions are centimetres, speeds centimetres per second; d is the asked time less a reference time, in seconds.
 -- Assumes nothing.
 use mathlib.Core.Bool.{Bool, _&&_}
 use mathlib.Core.List.{List, [], _∷_, _++_}
@@ -13,6 +13,7 @@ use Rattle.rows.specs.declared.Row.{Row}
 use Rattle.grid.specs.declared.Range.{Range}
 use Rattle.grid.specs.declared.Rect.{Rect}
 use Rattle.methods.specs.declared.Block.{Block}
+use Rattle.methods.specs.declared.Slice.{Slice}
 
 -- ---- expanding a rectangle
 
@@ -23,10 +24,11 @@ expandedRange r least greatest (negsuc n) =
     let size = pos (suc n) in
     record { low = r .low +ℤ least *ℤ size; high = r .high +ℤ greatest *ℤ size }
 
-unfoldable pub expandedRect : Rect → Row → ℤ → Rect
-expandedRect q b d = record {
-  x = expandedRange (q .x) (b .«least_vx») (b .«greatest_vx») d;
-  y = expandedRange (q .y) (b .«least_vy») (b .«greatest_vy») d;
+-- the rectangle of a timeslice expanded by bounds
+unfoldable pub expandedRect : Slice → Row → Rect
+expandedRect s b = record {
+  x = expandedRange (s .rect .x) (b .«least_vx») (b .«greatest_vx») (s .d);
+  y = expandedRange (s .rect .y) (b .«least_vy») (b .«greatest_vy») (s .d);
 }
 
 -- ---- blocks
@@ -84,8 +86,8 @@ movedSpan s least greatest (negsuc n) =
 unfoldable pub meets : Span → Range → Bool
 meets s r = notBelow (s .low) (r .high) && notAbove (s .high) (r .low)
 
--- whether a cell, moved by its row's speeds over d, meets the rectangle
-unfoldable pub movedCellMeets : Cell → Row → Rect → ℤ → Bool
-movedCellMeets c r q d =
-    meets (movedSpan (cellSpan (c .column)) (r .«least_vx») (r .«greatest_vx») d) (q .x)
-    && meets (movedSpan (cellSpan (c .row)) (r .«least_vy») (r .«greatest_vy») d) (q .y)
+-- whether a cell, moved by its row's speeds, meets the rectangle of a timeslice
+unfoldable pub movedCellMeets : Slice → Cell → Row → Bool
+movedCellMeets s c r =
+    meets (movedSpan (cellSpan (c .column)) (r .«least_vx») (r .«greatest_vx») (s .d)) (s .rect .x)
+    && meets (movedSpan (cellSpan (c .row)) (r .«least_vy») (r .«greatest_vy») (s .d)) (s .rect .y)

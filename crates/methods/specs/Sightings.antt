@@ -10,8 +10,9 @@ use Rattle.grid.specs.Places.{cellOf}
 use Rattle.grid.specs.Sightings.{Sighting}
 use Rattle.grid.specs.Sightings as Grid
 use Rattle.rows.specs.Row.{emptyRow, widened}
+use Rattle.methods.specs.Aims.{sliceAim}
 use Rattle.methods.specs.Methods.{Rows, Choice, choice}
-use Rattle.grid.specs.declared.Rect.{Rect}
+use Rattle.methods.specs.declared.Slice.{Slice}
 
 -- rows with one float more, placed at (x, y)
 abbrev pub withFloat : Rows → ℤ → ℤ → ℤ → ℤ → Rows
@@ -29,11 +30,15 @@ rowsP11 =
     (pos 500)
     (pos 0)
 
-abbrev pub rectP11 : Rect
-rectP11 = record { x = record { low = pos 2621440; high = pos 2883583 }; y = record { low = pos 0; high = pos 1000 } }
+-- its ask, 3,600 seconds after that
+abbrev pub sliceP11 : Slice
+sliceP11 = record {
+  rect = record { x = record { low = pos 2621440; high = pos 2883583 }; y = record { low = pos 0; high = pos 1000 } };
+  d = pos 3600;
+}
 
 unfoldable pub choiceP11 : ℕ → Choice
-choiceP11 method = choice method rowsP11 rectP11 (pos 3600)
+choiceP11 method = choice method rowsP11 (sliceAim sliceP11)
 
 unfoldable pub sightings : List Sighting
 sightings =

@@ -1,37 +1,37 @@
 // The four methods, each by its number, over the rows of one slot of a lent table.
 ghost use mathlib.Core.Path.{_≡_};
-ghost use mathlib.Core.Bool.{true};
 ghost use lib.ListN.{length};
 ghost use Rattle.grid.specs.Units.{cells};
-ghost use Rattle.rows.specs.Row.{emptyRow, validRow};
-ghost use Rattle.methods.specs.Methods.{found, cellsFound, unlessMissing, expandedBlock, naiveBlock, iterated, mostRounds};
-ghost use Rattle.methods.specs.Chosen.{rowsOfSlot, IsSlot, IsAsk, ChosenBy};
+ghost use Rattle.rows.specs.Row.{emptyRow};
+ghost use Rattle.methods.specs.Aims.{sliceAim};
+ghost use Rattle.methods.specs.Methods.{cellsFound, unlessMissing, expandedBlock, iterated, mostRounds};
+ghost use Rattle.methods.specs.Chosen.{rowsOfSlot, ChosenBy};
 ghost use Rattle.methods.specs.Small.{BlockOnGrid};
-ghost use Rattle.methods.specs.Marked.{noMarks, Marked, FoundIs, SearchIs};
+ghost use Rattle.methods.specs.Marked.{Marked, FoundIs, SearchIs};
+ghost use Rattle.methods.specs.Given.{CanExpand, CanSearch, CanChoose, CanChooseWithin};
 use crate::Block;
 use crate::FoundBlock;
 use crate::Searched;
+use crate::Slice;
 use crate::bounds::block_bounds;
 use crate::bounds::phase_bounds;
 use crate::mark::clear;
 use crate::mark::mark_block;
 use crate::mark::mark_reached;
 use crate::reach::block_of;
-use crate::reach::expand;
-use grid::Rect;
 use rows::Row;
 
 // The most rounds of the iterative method.
 const MOST_ROUNDS: usize = 64;
 
 // The block of the rectangle expanded by bounds.
-fn expanded_block(bounds: Row, q: Rect, d: i64) -> FoundBlock
-    requires { ⌜ IsAsk q d × (validRow bounds ≡ true) ⌝ }
-    ensures { λ r. ⌜ FoundIs r (expandedBlock bounds q d) ⌝ }
+fn expanded_block(bounds: Row, slice: Slice) -> FoundBlock
+    requires { ⌜ CanExpand slice bounds ⌝ }
+    ensures { λ r. ⌜ FoundIs r (expandedBlock bounds (sliceAim slice)) ⌝ }
 {
     FoundBlock {
         missing: bounds.is_empty(),
-        block: block_of(expand(q, bounds, d)),
+        block: block_of(slice.expanded(bounds)),
     }
 }
 
@@ -47,9 +47,9 @@ fn mark_found(f: FoundBlock, marks: &mut [u8])
 }
 
 // The rounds of the iterative method, from the naive block.
-fn search(table: &[i16], slot: usize, q: Rect, d: i64, naive: Block) -> Searched
-    requires { ⌜ IsSlot (now table) slot × IsAsk q d × BlockOnGrid naive ⌝ }
-    ensures { λ r. ⌜ SearchIs r (iterated mostRounds (rowsOfSlot (now (table .entry)) slot) q d emptyRow naive 0) ⌝ }
+fn search(table: &[i16], slot: usize, slice: Slice, naive: Block) -> Searched
+    requires { ⌜ CanSearch (now table) slot slice naive ⌝ }
+    ensures { λ r. ⌜ SearchIs r (iterated mostRounds (rowsOfSlot (now (table .entry)) slot) (sliceAim slice) emptyRow naive 0) ⌝ }
 {
     let mut before = Row::empty();
     let mut block = naive;
@@ -69,7 +69,7 @@ fn search(table: &[i16], slot: usize, q: Rect, d: i64, naive: Block) -> Searched
             break;
         }
         before = bounds;
-        block = block_of(expand(q, bounds, d));
+        block = block_of(slice.expanded(bounds));
         rounds += 1;
     }
     Searched {
@@ -86,42 +86,41 @@ fn choose_within(
     table: &[i16],
     slot: usize,
     method: usize,
-    q: Rect,
-    d: i64,
+    slice: Slice,
     naive: Block,
     marks: &mut [u8],
 ) -> usize
-    requires { ⌜ IsSlot (now table) slot × IsAsk q d × BlockOnGrid naive × (naiveBlock (rowsOfSlot (now table) slot) q d ≡ found naive) × (now marks ≡ noMarks) ⌝ }
-    ensures { λ r. ⌜ ChosenBy method (now (table .entry)) slot q d (now (marks .exit)) r ⌝ }
+    requires { ⌜ CanChooseWithin (now table) slot slice naive (now marks) ⌝ }
+    ensures { λ r. ⌜ ChosenBy method (now (table .entry)) slot (sliceAim slice) (now (marks .exit)) r ⌝ }
 {
     if method == 0 {
         mark_block(naive, marks);
         return 0;
     }
     if method == 1 {
-        let narrowed = expanded_block(block_bounds(table, slot, naive), q, d);
+        let narrowed = expanded_block(block_bounds(table, slot, naive), slice);
         mark_found(narrowed, marks);
         return 0;
     }
     if method == 2 {
-        let s = search(table, slot, q, d, naive);
+        let s = search(table, slot, slice, naive);
         mark_found(s.found, marks);
         return s.rounds;
     }
-    mark_reached(table, slot, naive, q, d, marks);
+    mark_reached(table, slot, naive, slice, marks);
     0
 }
 
 // The choice of a method, as marks by curve number, and its rounds. How many cells are marked is not given: cells are counted where they are read.
 // Every number from 3 on is the optimal method.
-pub fn choose(table: &[i16], slot: usize, method: usize, q: Rect, d: i64, marks: &mut [u8]) -> usize
-    requires { ⌜ IsSlot (now table) slot × IsAsk q d × (length (now marks) ≡ cells) ⌝ }
-    ensures { λ r. ⌜ ChosenBy method (now (table .entry)) slot q d (now (marks .exit)) r ⌝ }
+pub fn choose(table: &[i16], slot: usize, method: usize, slice: Slice, marks: &mut [u8]) -> usize
+    requires { ⌜ CanChoose (now table) slot slice (now marks) ⌝ }
+    ensures { λ r. ⌜ ChosenBy method (now (table .entry)) slot (sliceAim slice) (now (marks .exit)) r ⌝ }
 {
     clear(marks);
-    let naive = expanded_block(phase_bounds(table, slot), q, d);
+    let naive = expanded_block(phase_bounds(table, slot), slice);
     if naive.missing {
         return 0;
     }
-    choose_within(table, slot, method, q, d, naive.block, marks)
+    choose_within(table, slot, method, slice, naive.block, marks)
 }

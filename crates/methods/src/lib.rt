@@ -5,6 +5,14 @@ pub mod choose;
 pub mod mark;
 pub mod reach;
 
+use grid::Rect;
+
+// A timeslice query seen from a phase's reference time: its rectangle, at d seconds after that time, or before it where d is below 0.
+pub struct Slice {
+    pub rect: Rect,
+    pub d: i64,
+}
+
 // Every cell from a first column and row to a last column and row.
 pub struct Block {
     pub first_column: usize,

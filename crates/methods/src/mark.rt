@@ -7,15 +7,16 @@ ghost use Rattle.grid.specs.Units.{side, cells};
 ghost use Rattle.grid.specs.Places.{OnGrid};
 ghost use Rattle.grid.specs.Curve.{IsCurve};
 ghost use Rattle.methods.specs.Reach.{columnsOf, cellsOfRow, cellsOf};
+ghost use Rattle.methods.specs.Aims.{sliceAim};
 ghost use Rattle.methods.specs.Methods.{isReached, reached};
-ghost use Rattle.methods.specs.Chosen.{rowsOfSlot, withCells, IsSlot, IsAsk};
+ghost use Rattle.methods.specs.Chosen.{rowsOfSlot, withCells};
 ghost use Rattle.methods.specs.Small.{BlockOnGrid};
 ghost use Rattle.methods.specs.Marked.{noMarks, Marked};
+ghost use Rattle.methods.specs.Given.{CanMark, CanMarkRow, CanTest, CanMarkCell};
 use crate::Block;
+use crate::Slice;
 use crate::bounds::row_of_cell;
-use crate::reach::moved_cell_meets;
 use grid::Cell;
-use grid::Rect;
 
 // Every mark taken away.
 pub fn clear(marks: &mut [u8])
@@ -70,23 +71,16 @@ pub fn mark_block(b: Block, marks: &mut [u8])
     }
 }
 
-// Whether a cell's row is nonempty and the cell, moved by the row's speeds over d, meets the rectangle.
-pub fn is_reached(
-    numbers: &[u16; 1024],
-    table: &[i16],
-    slot: usize,
-    c: Cell,
-    q: Rect,
-    d: i64,
-) -> bool
-    requires { ⌜ (IsCurve (now numbers)) × IsSlot (now table) slot × IsAsk q d × OnGrid c ⌝ }
-    ensures { λ r. ⌜ r ≡ isReached (rowsOfSlot (now (table .entry)) slot) q d c ⌝ }
+// Whether a cell's row is nonempty and the cell, moved by the row's speeds, meets the rectangle.
+pub fn is_reached(numbers: &[u16; 1024], table: &[i16], slot: usize, c: Cell, slice: Slice) -> bool
+    requires { ⌜ CanTest (now numbers) (now table) slot slice c ⌝ }
+    ensures { λ r. ⌜ r ≡ isReached (rowsOfSlot (now (table .entry)) slot) (sliceAim slice) c ⌝ }
 {
     let row = row_of_cell(numbers, table, slot, c);
     if row.is_empty() {
         return false;
     }
-    moved_cell_meets(c, row, q, d)
+    slice.meets(c, row)
 }
 
 // Marks a cell if it is reached.
@@ -95,14 +89,13 @@ fn mark_if_reached(
     table: &[i16],
     slot: usize,
     c: Cell,
-    q: Rect,
-    d: i64,
+    slice: Slice,
     marks: &mut [u8],
 )
-    requires { ⌜ (IsCurve (now numbers)) × IsSlot (now table) slot × IsAsk q d × OnGrid c × (length (now marks) ≡ cells) ⌝ }
-    ensures { λ u. ⌜ Marked (now (marks .entry)) (reached (rowsOfSlot (now (table .entry)) slot) q d (c ∷ [])) (now (marks .exit)) ⌝ }
+    requires { ⌜ CanMarkCell (now numbers) (now table) slot slice c (now marks) ⌝ }
+    ensures { λ u. ⌜ Marked (now (marks .entry)) (reached (rowsOfSlot (now (table .entry)) slot) (sliceAim slice) (c ∷ [])) (now (marks .exit)) ⌝ }
 {
-    if !is_reached(numbers, table, slot, c, q, d) {
+    if !is_reached(numbers, table, slot, c, slice) {
         return;
     }
     mark_cell(numbers, c, marks);
@@ -115,12 +108,11 @@ fn mark_reached_in_row(
     slot: usize,
     b: Block,
     row: usize,
-    q: Rect,
-    d: i64,
+    slice: Slice,
     marks: &mut [u8],
 )
-    requires { ⌜ (IsCurve (now numbers)) × IsSlot (now table) slot × IsAsk q d × BlockOnGrid b × (row < side) × (length (now marks) ≡ cells) ⌝ }
-    ensures { λ u. ⌜ Marked (now (marks .entry)) (reached (rowsOfSlot (now (table .entry)) slot) q d (cellsOfRow row (b .«first_column») (columnsOf b))) (now (marks .exit)) ⌝ }
+    requires { ⌜ CanMarkRow (now numbers) (now table) slot slice b row (now marks) ⌝ }
+    ensures { λ u. ⌜ Marked (now (marks .entry)) (reached (rowsOfSlot (now (table .entry)) slot) (sliceAim slice) (cellsOfRow row (b .«first_column») (columnsOf b))) (now (marks .exit)) ⌝ }
 {
     let mut column = b.first_column;
     while column < b.last_column + 1 {
@@ -132,8 +124,7 @@ fn mark_reached_in_row(
                 column: column,
                 row: row,
             },
-            q,
-            d,
+            slice,
             marks,
         );
         column += 1;
@@ -141,14 +132,14 @@ fn mark_reached_in_row(
 }
 
 // Marks those of a block's cells that are reached.
-pub fn mark_reached(table: &[i16], slot: usize, b: Block, q: Rect, d: i64, marks: &mut [u8])
-    requires { ⌜ IsSlot (now table) slot × IsAsk q d × BlockOnGrid b × (length (now marks) ≡ cells) ⌝ }
-    ensures { λ u. ⌜ Marked (now (marks .entry)) (reached (rowsOfSlot (now (table .entry)) slot) q d (cellsOf b)) (now (marks .exit)) ⌝ }
+pub fn mark_reached(table: &[i16], slot: usize, b: Block, slice: Slice, marks: &mut [u8])
+    requires { ⌜ CanMark (now table) slot slice b (now marks) ⌝ }
+    ensures { λ u. ⌜ Marked (now (marks .entry)) (reached (rowsOfSlot (now (table .entry)) slot) (sliceAim slice) (cellsOf b)) (now (marks .exit)) ⌝ }
 {
     let numbers = grid::curve_numbers();
     let mut row = b.first_row;
     while row < b.last_row + 1 {
-        mark_reached_in_row(&numbers, table, slot, b, row, q, d, marks);
+        mark_reached_in_row(&numbers, table, slot, b, row, slice, marks);
         row += 1;
     }
 }

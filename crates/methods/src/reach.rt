@@ -1,16 +1,17 @@
-// What a rectangle and a cell reach over d seconds at the speeds of a row. Positions are centimetres, speeds centimetres per second.
+// What a timeslice and a cell reach at the speeds of a row. Positions are centimetres, speeds centimetres per second.
 ghost use mathlib.Core.Path.{_≡_};
-ghost use mathlib.Core.Bool.{true};
 ghost use Prim.Native.Nat.{_<_, _≤_, _^_};
 ghost use lib.IntN.{natAbs, pos, _-ℤ_, _*ℤ_};
 ghost use Rattle.grid.specs.Units.{side};
-ghost use Rattle.grid.specs.Places.{cellSpan, notBelow, notAbove, OnGrid};
-ghost use Rattle.rows.specs.Row.{validRow};
+ghost use Rattle.grid.specs.Places.{cellSpan, notBelow, notAbove};
 ghost use Rattle.methods.specs.Reach.{expandedRange, expandedRect, blockOf, movedSpan, meets, movedCellMeets};
-ghost use Rattle.methods.specs.Chosen.{IsAsk};
+ghost use Rattle.methods.specs.Aims.{sliceOf};
 ghost use Rattle.methods.specs.Small.{SmallAxis};
+ghost use Rattle.methods.specs.Given.{CanSee, CanExpand, CanMeet};
 use crate::Block;
+use crate::Slice;
 use grid::Cell;
+use grid::Query;
 use grid::Range;
 use grid::Rect;
 use rows::Row;
@@ -54,14 +55,35 @@ fn expand_range(range: Range, least: i16, greatest: i16, d: i64) -> Range
     }
 }
 
-// The rectangle expanded by a row's bounds over d.
-pub fn expand(q: Rect, bounds: Row, d: i64) -> Rect
-    requires { ⌜ IsAsk q d × (validRow bounds ≡ true) ⌝ }
-    ensures { λ r. ⌜ r ≡ expandedRect q bounds d ⌝ }
-{
-    Rect {
-        x: expand_range(q.x, bounds.least_vx, bounds.greatest_vx, d),
-        y: expand_range(q.y, bounds.least_vy, bounds.greatest_vy, d),
+impl Slice {
+    // A query seen from phase p.
+    pub fn of(query: Query, p: usize) -> Slice
+        requires { ⌜ CanSee query p ⌝ }
+        ensures { λ r. ⌜ r ≡ sliceOf p query ⌝ }
+    {
+        let rect = query.rect;
+        let d = query.wide_time() - rows::reference_time(p);
+        Slice { rect, d }
+    }
+
+    // The rectangle expanded by bounds.
+    pub fn expanded(self, bounds: Row) -> Rect
+        requires { ⌜ CanExpand self bounds ⌝ }
+        ensures { λ r. ⌜ r ≡ expandedRect self bounds ⌝ }
+    {
+        Rect {
+            x: expand_range(self.rect.x, bounds.least_vx, bounds.greatest_vx, self.d),
+            y: expand_range(self.rect.y, bounds.least_vy, bounds.greatest_vy, self.d),
+        }
+    }
+
+    // Whether a cell, moved by its row's speeds, meets the rectangle.
+    pub fn meets(self, c: Cell, row: Row) -> bool
+        requires { ⌜ CanMeet self c row ⌝ }
+        ensures { λ r. ⌜ r ≡ movedCellMeets self c row ⌝ }
+    {
+        moved_meets(c.column, row.least_vx, row.greatest_vx, self.rect.x, self.d)
+            && moved_meets(c.row, row.least_vy, row.greatest_vy, self.rect.y, self.d)
     }
 }
 
@@ -106,13 +128,4 @@ fn moved_meets(i: usize, least: i16, greatest: i16, range: Range, d: i64) -> boo
 {
     let reach = expand_range(range, least, greatest, d);
     starts_by(i, reach.high) && ends_from(i, reach.low)
-}
-
-// Whether a cell, moved by its row's speeds over d, meets the rectangle.
-pub fn moved_cell_meets(c: Cell, row: Row, q: Rect, d: i64) -> bool
-    requires { ⌜ OnGrid c × IsAsk q d × (validRow row ≡ true) ⌝ }
-    ensures { λ r. ⌜ r ≡ movedCellMeets c row q d ⌝ }
-{
-    moved_meets(c.column, row.least_vx, row.greatest_vx, q.x, d)
-        && moved_meets(c.row, row.least_vy, row.greatest_vy, q.y, d)
 }

@@ -1,18 +1,20 @@
--- Reading, for any set of cells of a slot: the listed floats whose records lie in the set, how many cells the set has, and how many of them hold
--- a listed float. Document 01, "The four ways to choose cells", its last paragraph.
+-- Reading, for any set of cells of a slot and whatever an ask calls inside: the listed floats, those inside whose records lie in the set, how many
+-- cells the set has, and how many of them hold a listed float. Document 01, "The four ways to choose cells", its last paragraph.
 -- Assumes nothing.
 use mathlib.Core.Path.{_≡_}
 use mathlib.Core.Bool.{Bool, false, _&&_, _||_, not, cond}
 use mathlib.Core.List.{List, [], _∷_}
-use Prim.Native.Nat.{ℕ, zero, suc, _+_, _*_, _≤_}
+use Prim.Native.Nat.{ℕ, zero, suc, _+_, _*_, _≤_, _<_}
 use lib.Dec.{eqb}
 use lib.IntN.{ℤ, pos}
 use lib.ListN.{length, getD, set}
 use Rattle.ints.specs.Whole.{up, eqZ, between}
 use Rattle.grid.specs.Units.{cells, lastId}
-use Rattle.grid.specs.Reports.{isListed}
-use Rattle.grid.specs.declared.Rect.{Rect}
+use Rattle.grid.specs.Small.{SmallQuery}
+use Rattle.grid.specs.declared.Query.{Query}
+use Rattle.grid.specs.declared.Report.{Report}
 use Rattle.records.specs.Order.{slotOfKey, numberOfKey}
+use Rattle.records.specs.Soundness.{IsStore}
 use Rattle.records.specs.declared.Record.{Record}
 use Rattle.reading.specs.declared.Reading.{Reading}
 
@@ -26,14 +28,14 @@ betweenKeys low high [] = []
 betweenKeys low high (r ∷ rs) = cond (between low high (r .key)) (r ∷ betweenKeys low high rs) (betweenKeys low high rs)
 
 -- whether reading a set of cells of a slot lists a record
-abbrev pub isRead : List ℕ → ℕ → Rect → ℤ → Record → Bool
-isRead marks slot q asked r =
-    (eqb (slotOfKey (r .key)) slot && inSet marks (numberOfKey (r .key))) && isListed q asked (r .report)
+abbrev pub isRead : List ℕ → ℕ → (Report → Bool) → Record → Bool
+isRead marks slot inside r =
+    (eqb (slotOfKey (r .key)) slot && inSet marks (numberOfKey (r .key))) && inside (r .report)
 
-unfoldable pub listedIn : List ℕ → ℕ → Rect → ℤ → List Record → List Record
-listedIn marks slot q asked [] = []
-listedIn marks slot q asked (r ∷ rs) =
-    cond (isRead marks slot q asked r) (r ∷ listedIn marks slot q asked rs) (listedIn marks slot q asked rs)
+unfoldable pub listedIn : List ℕ → ℕ → (Report → Bool) → List Record → List Record
+listedIn marks slot inside [] = []
+listedIn marks slot inside (r ∷ rs) =
+    cond (isRead marks slot inside r) (r ∷ listedIn marks slot inside rs) (listedIn marks slot inside rs)
 
 -- the cells of the set, from curve number `number` on, n of them
 unfoldable pub cellsIn : List ℕ → ℕ → ℕ → ℕ
@@ -56,11 +58,19 @@ unfoldable pub withIds : List ℕ → List Record → List ℕ
 withIds found [] = found
 withIds found (r ∷ rs) = withIds (set found (up (r .report .id)) 1) rs
 
+-- what reading asks: a sound store's words, one of the three slots, a mark for each cell and for each id, and a query whose time is small
+pub record CanReadCells (s : List ℤ) (slot : ℕ) (marks : List ℕ) (query : Query) (found : List ℕ) : Type 0 where
+  pub store : IsStore s
+  pub one-of-three : slot < 3
+  pub one-each : length marks ≡ cells
+  pub all-ids : length found ≡ 65536
+  pub small : SmallQuery query
+
 -- what reading gives back: floats listed, cells read, useful cells
-pub record ReadingOf (marks : List ℕ) (slot : ℕ) (q : Rect) (asked : ℤ) (rs : List Record) (r : Reading) : Type 0 where
-  pub listed-are : r .listed ≡ length (listedIn marks slot q asked rs)
+pub record ReadingOf (marks : List ℕ) (slot : ℕ) (inside : Report → Bool) (rs : List Record) (r : Reading) : Type 0 where
+  pub listed-are : r .listed ≡ length (listedIn marks slot inside rs)
   pub cells-are : r .cells ≡ cellsIn marks 0 cells
-  pub useful-are : r .useful ≡ usefulIn slot (listedIn marks slot q asked rs) 0 cells
+  pub useful-are : r .useful ≡ usefulIn slot (listedIn marks slot inside rs) 0 cells
 
 -- a reading none of whose counts is above `most`
 pub record SmallReading (most : ℕ) (r : Reading) : Type 0 where

@@ -1,6 +1,7 @@
 -- The view from words to records and back: what is written is what is read, and the words of a store are those of its records.
 -- Assumes nothing.
-use mathlib.Core.Path.{_≡_, refl, sym, ap, _∙_}
+use mathlib.Core.Path.{_≡_, refl, sym, ap, ap₂, _∙_}
+use mathlib.Core.Bool.{true}
 use mathlib.Core.List.{List, [], _∷_, _++_, append-assoc}
 use Prim.Native.Nat.{ℕ, zero, suc, _+_, _-_, _*_, _≤_}
 use native.Mathlib.Omega.{arith}
@@ -9,6 +10,8 @@ use lib.ListN.{length, getD, drop, replicate, length-append, length-replicate, l
 use lib.Seq.{drop-cons, drop-drop}
 use Rattle.grid.specs.Units.{capacity}
 use Rattle.records.specs.Records.{recordWords, storeWords, recordFrom, nowOf, heldOf, readRecords, recordsOf, wordsOf, wordsOfAll, storeOf}
+use Rattle.records.specs.Order.{isSorted}
+use Rattle.records.specs.Soundness.{allRanged, IsStore}
 use Rattle.records.specs.declared.Record.{Record}
 
 -- ---- from records to words and back
@@ -83,3 +86,17 @@ written-read (suc n) w long =
     (ap (λ (l : List ℤ). wordsOfAll (readRecords n (drop recordWords w)) ++ l) (sym rest)
     ∙ written-read n (drop recordWords w) later)
     ∙ first-record w (omega arith)
+
+-- ---- what the functions that work on a store ask of it
+
+-- the words of any few, ranged, sorted records are a store
+pub store-of : (now : ℤ) (rs : List Record) → length rs ≤ capacity → allRanged rs ≡ true → isSorted rs ≡ true → IsStore (storeOf now rs)
+store-of now rs few ranged sorted = record {
+  words = ap₂ storeOf (sym (now-of-store now rs)) (sym (records-of-store now rs));
+  few = rw (records-of-store now rs) few;
+  ranged = rw (records-of-store now rs) ranged;
+  sorted = rw (records-of-store now rs) sorted;
+}
+
+pub store-words-of : (s : List ℤ) → IsStore s → length s ≡ storeWords
+store-words-of s h = ap length (h .words) ∙ store-length (nowOf s) (recordsOf s) (h .few)

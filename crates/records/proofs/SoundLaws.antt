@@ -99,7 +99,12 @@ all-sound-ranged now (a ∷ rs) time h =
     (sound-ranged now a time (and-left (isSoundRecord now a) (allSound now rs) h))
     (all-sound-ranged now rs time (and-right (isSoundRecord now a) (allSound now rs) h))
 
-pub speeds-each : (t : List ℤ) (rs : List Record) → speedsInRows t rs ≡ true → (r : Record) → List·Memᴰ r rs → holds (rowAt t (slotOfKey (r .key)) (numberOfKey (r .key))) (r .report .vx) (r .report .vy) ≡ true
+pub speeds-each :
+    (t : List ℤ) (rs : List Record)
+    → speedsInRows t rs ≡ true
+    → (r : Record)
+    → List·Memᴰ r rs
+    → holds (rowAt t (slotOfKey (r .key)) (numberOfKey (r .key))) (r .report .vx) (r .report .vy) ≡ true
 unfolding speedsInRows
 speeds-each t [] h r m = absurd (List·Memᴰ·not-nil m)
 speeds-each t (a ∷ rs) h r m =
@@ -284,7 +289,17 @@ sound-parts s t h =
       speeds = and-right (long && validTable t) speeds table;
     }
 
-pub parts-sound : (now : ℤ) (rs : List Record) (t : List ℤ) → length rs ≤ capacity → isTime now ≡ true → allSound now rs ≡ true → isSorted rs ≡ true → idsDistinct rs ≡ true → length t ≡ tableWords → validTable t ≡ true → speedsInRows t rs ≡ true → isSound (storeOf now rs) t ≡ true
+pub parts-sound :
+    (now : ℤ) (rs : List Record) (t : List ℤ)
+    → length rs ≤ capacity
+    → isTime now ≡ true
+    → allSound now rs ≡ true
+    → isSorted rs ≡ true
+    → idsDistinct rs ≡ true
+    → length t ≡ tableWords
+    → validTable t ≡ true
+    → speedsInRows t rs ≡ true
+    → isSound (storeOf now rs) t ≡ true
 unfolding isSound
 parts-sound now rs t few time sound sorted distinct long valid speeds =
     and-true

@@ -72,7 +72,9 @@ module _ (marks : List ℕ) (id : ℤ) (whole : down id ≡ 0) (fits : up id < l
 
 -- ---- a turn
 
-distinct-cons : (marks : List ℕ) (r : Record) (rs : List Record) → stillDistinct marks (r ∷ rs) ≡ (eqb (getD marks (up (r .report .id)) 0) 0 && noneMarked marks rs) && (not (hasId (r .report .id) rs) && idsDistinct rs)
+distinct-cons :
+    (marks : List ℕ) (r : Record) (rs : List Record)
+    → stillDistinct marks (r ∷ rs) ≡ (eqb (getD marks (up (r .report .id)) 0) 0 && noneMarked marks rs) && (not (hasId (r .report .id) rs) && idsDistinct rs)
 unfolding noneMarked idsDistinct
 distinct-cons marks r rs = refl
 
@@ -81,13 +83,22 @@ distinct-at-first m n w =
     ap idsDistinct (left-at-first n w) ∙ sym (ap (λ (b : Bool). b && idsDistinct (left n 0 w)) (none-yet m (left n 0 w)))
 
 module _ (n i : ℕ) (w : List ℤ) (marks : List ℕ) (e : idsDistinct (readRecords n w) ≡ stillDistinct marks (left n i w)) where
-  at-id : i < n → idsDistinct (readRecords n w) ≡ (eqb (getD marks (up (recordFrom w (recordWords * i) .report .id)) 0) 0 && noneMarked marks (left n (i + 1) w)) && (not (hasId (recordFrom w (recordWords * i) .report .id) (left n (i + 1) w)) && idsDistinct (left n (i + 1) w))
+  at-id :
+      i < n
+      → idsDistinct (readRecords n w)
+      ≡ (eqb (getD marks (up (recordFrom w (recordWords * i) .report .id)) 0) 0 && noneMarked marks (left n (i + 1) w))
+      && (not (hasId (recordFrom w (recordWords * i) .report .id) (left n (i + 1) w)) && idsDistinct (left n (i + 1) w))
   at-id h = e ∙ ap (stillDistinct marks) (left-at n i w h) ∙ distinct-cons marks (recordFrom w (recordWords * i)) (left n (i + 1) w)
 
   pub seen-twice : i < n → (getD marks (up (recordFrom w (recordWords * i) .report .id)) 0 ≡ 0 → ⊥) → false ≡ idsDistinct (readRecords n w)
   seen-twice h t = sym (at-id h ∙ simp (ne-eqb (getD marks (up (recordFrom w (recordWords * i) .report .id)) 0) 0 t))
 
-  pub seen-once : i < n → getD marks (up (recordFrom w (recordWords * i) .report .id)) 0 ≡ 0 → length marks ≡ 65536 → allRanged (left n i w) ≡ true → idsDistinct (readRecords n w) ≡ stillDistinct (set marks (up (recordFrom w (recordWords * i) .report .id)) 1) (left n (i + 1) w)
+  pub seen-once :
+      i < n
+      → getD marks (up (recordFrom w (recordWords * i) .report .id)) 0 ≡ 0
+      → length marks ≡ 65536
+      → allRanged (left n i w) ≡ true
+      → idsDistinct (readRecords n w) ≡ stillDistinct (set marks (up (recordFrom w (recordWords * i) .report .id)) 1) (left n (i + 1) w)
   seen-once h t long ranged =
       let r = recordFrom w (recordWords * i) in
       let rest = left n (i + 1) w in

@@ -72,7 +72,9 @@ ranged-here n i w h e =
     (and-left (isRanged r) (allRanged (left n (i + 1) w)) both, and-right (isRanged r) (allRanged (left n (i + 1) w)) both)
 
 -- a test of every record, in turn
-module _ (all : List Record → Bool) (one : Record → Bool) (none : all [] ≡ true) (more : (r : Record) (rs : List Record) → all (r ∷ rs) ≡ one r && all rs) (n i : ℕ) (w : List ℤ) (e : all (readRecords n w) ≡ all (left n i w)) where
+module _
+    (all : List Record → Bool) (one : Record → Bool) (none : all [] ≡ true) (more : (r : Record) (rs : List Record) → all (r ∷ rs) ≡ one r && all rs)
+    (n i : ℕ) (w : List ℤ) (e : all (readRecords n w) ≡ all (left n i w)) where
   at-record : i < n → all (readRecords n w) ≡ one (recordFrom w (recordWords * i)) && all (left n (i + 1) w)
   at-record h = e ∙ ap all (left-at n i w h) ∙ more (recordFrom w (recordWords * i)) (left n (i + 1) w)
 

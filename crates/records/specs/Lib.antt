@@ -2,3 +2,4 @@ pub mod Records
 pub mod Order
 pub mod Soundness
 pub mod Places
+pub mod Words

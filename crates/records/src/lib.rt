@@ -1,6 +1,7 @@
 // The record store of document 01, "Store and table": signed 32-bit words in records of 7, sorted by key, then id.
 ghost use mathlib.Core.Path.{_≡_};
-ghost use Prim.Native.Nat.{_<_, _+_};
+ghost use Prim.Native.Nat.{_<_, _≤_, _+_, _^_};
+ghost use lib.IntN.{natAbs};
 ghost use lib.ListN.{length};
 ghost use Rattle.records.specs.Records.{recordFrom, nowOf, heldOf};
 use grid::Report;
@@ -46,6 +47,7 @@ impl Record {
 pub fn now_of(store: &[i32]) -> i64
     requires { ⌜ 0 < length (now store) ⌝ }
     ensures { λ r. ⌜ r ≡ nowOf (now (store .entry)) ⌝ }
+    ensures { λ r. ⌜ natAbs r ≤ 2 ^ 31 ⌝ }
 {
     let t = store[0];
     t as i64

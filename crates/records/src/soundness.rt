@@ -152,7 +152,7 @@ fn is_sorted(words: &[i32], n: usize) -> bool
 }
 
 // The phase of a time.
-fn phase_at(t: i32) -> usize
+pub fn phase_at(t: i32) -> usize
     ensures { λ r. ⌜ r ≡ phaseOf t ⌝ }
 {
     rows::phase_of(t as i64)
@@ -288,7 +288,8 @@ fn is_sound_header(store: &[i32]) -> bool
 // The records of a store whose record 0 is sound, and its unused words.
 fn is_sound_body(store: &[i32]) -> bool
     requires { ⌜ (length (now store) ≡ storeWords) × (isSoundHeader (now store) ≡ true) ⌝ }
-    ensures { λ r. ⌜ r ≡ (allSound (nowOf (now (store .entry))) (recordsOf (now (store .entry))) && isSorted (recordsOf (now (store .entry)))) && (idsDistinct (recordsOf (now (store .entry))) && allZero (drop (recordWords * (heldOf (now (store .entry)) + 1)) (now (store .entry)))) ⌝ }
+    ensures { λ r. ⌜ r ≡ (allSound (nowOf (now (store .entry))) (recordsOf (now (store .entry))) && isSorted (recordsOf (now (store .entry))))
+        && (idsDistinct (recordsOf (now (store .entry))) && allZero (drop (recordWords * (heldOf (now (store .entry)) + 1)) (now (store .entry)))) ⌝ }
 {
     let n = held_of(store);
     if !all_sound(&store[RECORD_WORDS..], n, store[0]) {

@@ -23,12 +23,13 @@ use Rattle.ledger.specs.Calls as L
 use Rattle.ledger.specs.declared.Answer.{Answer}
 use Rattle.libc.specs.Io.{Moved}
 use Rattle.io.specs.Counts.{clamped}
-use Rattle.engine.specs.Index.{settled, openOut}
+use Rattle.records.specs.Words.{Words, words}
+use Rattle.engine.specs.Index.{openOut}
 use Rattle.engine.specs.Gives.{Gives}
 use Rattle.history.specs.Index as H
 use Rattle.history.specs.Points.{Point}
 use Rattle.session.specs.Replay.{listLength}
-use Rattle.session.specs.Session.{Session, begun, sessionAfter, wordsIn, lineBytes, answerBytes, Stands, CanFeed, Feeds, Ends}
+use Rattle.session.specs.Session.{Session, begun, sessionAfter, lineBytes, answerBytes, Stands, CanFeed, Feeds, Ends}
 use Rattle.replay.specs.Program.{Ready, Begins}
 use Rattle.replay.specs.Program.{TakesChunk, TakesRead, isEnd, AnswersRead, Runs, Replays}
 use Rattle.session.specs.declared.feeding.Fed.{Fed}
@@ -40,38 +41,24 @@ use Rattle.session.proofs.Claims.{chunks-are-one-input}
 -- ---- the start
 
 module _ (store table : List ℤ) (long : length store ≡ storeWords) (wide : length table ≡ tableWords) where
-  opens : isAccepted (openOut store table (pos 0) .answer) ≡ true
-  unfolding openOut settled firstToFail
+  opens : isAccepted (openOut (words store table) (pos 0) .answer) ≡ true
+  unfolding openOut firstToFail
   opens = rw (eq-eqb (length store) storeWords long, eq-eqb (length table) tableWords wide) refl
 
-  words : (store′ table′ : List ℤ) (a : Answer) → Gives (openOut store table (pos 0)) a store′ table′ → wordsIn store′ table′ ≡ H.after (H.openedWords store table (pos 0)) []
-  unfolding H.after
-  words store′ table′ a g = λ i. wordsIn (g .store-is i) (g .table-is i)
-
-  ledger : opened (pos 0) ≡ L.after (opened (pos 0)) (H.fedAll [])
-  unfolding L.after H.fedAll
-  ledger = refl
-
-  at-start : (store′ table′ : List ℤ) (a : Answer) → Gives (openOut store table (pos 0)) a store′ table′ → Point (opened (pos 0)) (wordsIn store′ table′)
-  at-start store′ table′ a g = record {
-    lent-store = store;
-    lent-table = table;
-    time = pos 0;
-    calls = [];
-    opens = opens;
-    words-are = words store′ table′ a g;
-    ledger-is = ledger;
-  }
+  at-start : (w : Words) (a : Answer) → Gives (openOut (words store table) (pos 0)) a w → Point (opened (pos 0)) w
+  unfolding H.after L.after
+  at-start w a g =
+      record { lent = words store table; time = pos 0; calls = []; opens = opens; words-are = g .words-are; ledger-is = refl }
 
   pub begins :
       {store′ table′ : List ℤ} {a : Answer}
       → length store′ ≡ length store
       → length table′ ≡ length table
-      → Gives (openOut store table (pos 0)) a store′ table′
+      → Gives (openOut (words store table) (pos 0)) a (words store′ table′)
       → Begins store′ table′
   begins {store′} {table′} {a} same wider g = record {
-    point = at-start store′ table′ a g;
-    at-point = record { ledger = opened (pos 0); point = at-start store′ table′ a g };
+    point = at-start (words store′ table′) a g;
+    at-point = record { ledger = opened (pos 0); point = at-start (words store′ table′) a g };
     store-long = same ∙ long;
     table-long = wider ∙ wide;
   }

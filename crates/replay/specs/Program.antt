@@ -16,7 +16,8 @@ use Rattle.replay.specs.declared.Turn.{Turn}
 use Rattle.replay.specs.declared.Stop.{Stop}
 use Rattle.replay.specs.declared.Done.{Done}
 use Rattle.session.specs.Replay.{listLength}
-use Rattle.session.specs.Session.{Session, begun, sessionAfter, writtenAtEnd, ledgerAtEnd, wordsIn, lineBytes, Stands, AtPoint}
+use Rattle.records.specs.Words.{words}
+use Rattle.session.specs.Session.{Session, begun, sessionAfter, writtenAtEnd, ledgerAtEnd, lineBytes, Stands, AtPoint}
 
 -- at a point of some list, with buffers of their lengths
 pub record Ready (store table : List ℤ) (list line : List ℕ) (used : ℕ) : Type 0 where
@@ -29,7 +30,7 @@ pub record Ready (store table : List ℤ) (list line : List ℕ) (used : ℕ) : 
 
 -- opened at 0
 pub record Begins (store′ table′ : List ℤ) : Type 0 where
-  pub point : Point (opened (pos 0)) (wordsIn store′ table′)
+  pub point : Point (opened (pos 0)) (words store′ table′)
   pub at-point : AtPoint store′ table′
   pub store-long : length store′ ≡ storeWords
   pub table-long : length table′ ≡ tableWords
@@ -74,5 +75,5 @@ pub record Replays (store′ table′ : List ℤ) (line′ out′ : List ℕ) (d
   pub input : List ℕ
   pub many : length input ≡ done .taken
   pub stands : done .ended ≡ false → Stands (sessionAfter begun input) store′ table′ line′ (done .held)
-  pub leads : done .ended ≡ true → Point (ledgerAtEnd (sessionAfter begun input)) (wordsIn store′ table′)
+  pub leads : done .ended ≡ true → Point (ledgerAtEnd (sessionAfter begun input)) (words store′ table′)
   pub writes : done .ended ≡ true → take (done .filled) out′ ≡ writtenAtEnd (sessionAfter begun input)

@@ -13,6 +13,7 @@ ghost use Rattle.replay.specs.Program.{Ready, Begins, TakesChunk, TakesR
 
 mod streams;
 
+use session::feeding::LINE_BYTES;
 use session::feeding::feed;
 use session::feeding::finish;
 use streams::read_chunk;
@@ -205,7 +206,7 @@ fn main() {
     let mut store = [0i32; 7175];
     let mut table = [0i16; 12288];
     let mut list = [0u16; 1024];
-    let mut line = [0u8; 62];
+    let mut line = [0u8; LINE_BYTES];
     let mut chunk = io::large_buffer();
     let mut out = io::large_buffer();
     replay(

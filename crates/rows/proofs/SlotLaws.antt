@@ -32,7 +32,12 @@ slot-cases c slot h =
     (λ l. let t = phase-in-slot c slot l in inl (t .0, t .1, t .2 ∙ omega arith))
     (λ n. inr (λ p live e. omega (arith, live-range c p live)))
 
-later-other : (t : List ℤ) (earlier : ℕ) (ps : List ℕ) (slot number : ℕ) → length t ≡ tableWords → number < cells → ((p : ℕ) → List·Memᴰ p ps → slotOf p ≡ slot → ⊥) → rowAt (withLaterEmpty t earlier ps) slot number ≡ rowAt t slot number
+later-other :
+    (t : List ℤ) (earlier : ℕ) (ps : List ℕ) (slot number : ℕ)
+    → length t ≡ tableWords
+    → number < cells
+    → ((p : ℕ) → List·Memᴰ p ps → slotOf p ≡ slot → ⊥)
+    → rowAt (withLaterEmpty t earlier ps) slot number ≡ rowAt t slot number
 unfolding withLaterEmpty
 later-other t earlier [] slot number e h far = refl
 later-other t earlier (p ∷ ps) slot number e h far =
@@ -43,6 +48,11 @@ later-other t earlier (p ∷ ps) slot number e h far =
     go true = row-kept t (slotOf p) e (slot-on p) slot number h (λ same. far p (List·Memᴰ·head refl) (sym same))
     go false = refl
 
-pub other-slot-kept : (t : List ℤ) (earlier c slot number : ℕ) → length t ≡ tableWords → number < cells → ((p : ℕ) → isLive c p ≡ true → slotOf p ≡ slot → ⊥) → rowAt (withNewlyLiveEmpty t earlier c) slot number ≡ rowAt t slot number
+pub other-slot-kept :
+    (t : List ℤ) (earlier c slot number : ℕ)
+    → length t ≡ tableWords
+    → number < cells
+    → ((p : ℕ) → isLive c p ≡ true → slotOf p ≡ slot → ⊥)
+    → rowAt (withNewlyLiveEmpty t earlier c) slot number ≡ rowAt t slot number
 other-slot-kept t earlier c slot number e h far =
     later-other t earlier (livePhases c) slot number e h (λ p m. far p (listed-live c p m))

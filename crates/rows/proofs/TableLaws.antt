@@ -90,7 +90,12 @@ unfolding rowAt withRow
 row-written t slot number r e h k = put-same t (rowPlace slot number) r (omega arith)
 
 -- and every other row stays
-pub row-other : (t : List ℤ) (slot number : ℕ) (r : Row) (slot′ number′ : ℕ) → number < cells → number′ < cells → (slot′ ≢ slot) ⊎ (number′ ≢ number) → rowAt (withRow t slot number r) slot′ number′ ≡ rowAt t slot′ number′
+pub row-other :
+    (t : List ℤ) (slot number : ℕ) (r : Row) (slot′ number′ : ℕ)
+    → number < cells
+    → number′ < cells
+    → (slot′ ≢ slot) ⊎ (number′ ≢ number)
+    → rowAt (withRow t slot number r) slot′ number′ ≡ rowAt t slot′ number′
 unfolding rowAt withRow
 row-other t slot number r slot′ number′ h k differ =
     put-other t (rowPlace slot number) r (rowPlace slot′ number′)
@@ -149,7 +154,11 @@ module _ (t e : List ℤ) (a n : ℕ) (sized : length e ≡ n) (fits : a + n ≤
       let i = j - (a + n) in
       let u : j ≡ a + (n + i) = omega arith in
       let v : a + n + i ≡ j = omega arith in
-      ap (λ (x : ℕ). getD replaced x (pos 0)) u ∙ word-right (take a t) (e ++ drop (a + n) t) a (n + i) (length-take-le a t (omega arith)) ∙ word-right e (drop (a + n) t) n i sized ∙ getD-drop (a + n) t i (pos 0) ∙ ap (λ (x : ℕ). getD t x (pos 0)) v
+      ap (λ (x : ℕ). getD replaced x (pos 0)) u
+      ∙ word-right (take a t) (e ++ drop (a + n) t) a (n + i) (length-take-le a t (omega arith))
+      ∙ word-right e (drop (a + n) t) n i sized
+      ∙ getD-drop (a + n) t i (pos 0)
+      ∙ ap (λ (x : ℕ). getD t x (pos 0)) v
 
 module _ (t : List ℤ) (slot : ℕ) (sized : length t ≡ tableWords) (on : slot < slots) where
   pub length-slot-empty : length (withSlotEmpty t slot) ≡ length t
@@ -221,14 +230,25 @@ length-later-empty t earlier [] e = e
 length-later-empty t earlier (p ∷ ps) e =
     length-later-empty (emptiedIfLater t earlier p) earlier ps (length-step t earlier p e)
 
-later-stays : (t : List ℤ) (earlier : ℕ) (ps : List ℕ) (slot number : ℕ) → length t ≡ tableWords → number < cells → rowAt t slot number ≡ emptyRow → rowAt (withLaterEmpty t earlier ps) slot number ≡ emptyRow
+later-stays :
+    (t : List ℤ) (earlier : ℕ) (ps : List ℕ) (slot number : ℕ)
+    → length t ≡ tableWords
+    → number < cells
+    → rowAt t slot number ≡ emptyRow
+    → rowAt (withLaterEmpty t earlier ps) slot number ≡ emptyRow
 unfolding withLaterEmpty
 later-stays t earlier [] slot number e h empty = empty
 later-stays t earlier (p ∷ ps) slot number e h empty =
     later-stays (emptiedIfLater t earlier p) earlier ps slot number (length-step t earlier p e) h
     (step-stays t earlier p slot number e h empty)
 
-later-empties : (t : List ℤ) (earlier : ℕ) (ps : List ℕ) (p number : ℕ) → length t ≡ tableWords → number < cells → List·Memᴰ p ps → earlier < p → rowAt (withLaterEmpty t earlier ps) (slotOf p) number ≡ emptyRow
+later-empties :
+    (t : List ℤ) (earlier : ℕ) (ps : List ℕ) (p number : ℕ)
+    → length t ≡ tableWords
+    → number < cells
+    → List·Memᴰ p ps
+    → earlier < p
+    → rowAt (withLaterEmpty t earlier ps) (slotOf p) number ≡ emptyRow
 unfolding withLaterEmpty
 later-empties t earlier [] p number e h m l = absurd (List·Memᴰ·not-nil m)
 later-empties t earlier (q ∷ ps) p number e h m l =
@@ -239,7 +259,12 @@ later-empties t earlier (q ∷ ps) p number e h m l =
     (λ k. later-empties (emptiedIfLater t earlier q) earlier ps p number (length-step t earlier q e) h k l)
     (List·Memᴰ·cases-cons m)
 
-later-keeps : (t : List ℤ) (earlier : ℕ) (ps : List ℕ) (slot number : ℕ) → length t ≡ tableWords → number < cells → ((p : ℕ) → List·Memᴰ p ps → slot ≡ slotOf p → p ≤ earlier) → rowAt (withLaterEmpty t earlier ps) slot number ≡ rowAt t slot number
+later-keeps :
+    (t : List ℤ) (earlier : ℕ) (ps : List ℕ) (slot number : ℕ)
+    → length t ≡ tableWords
+    → number < cells
+    → ((p : ℕ) → List·Memᴰ p ps → slot ≡ slotOf p → p ≤ earlier)
+    → rowAt (withLaterEmpty t earlier ps) slot number ≡ rowAt t slot number
 unfolding withLaterEmpty
 later-keeps t earlier [] slot number e h far = refl
 later-keeps t earlier (p ∷ ps) slot number e h far =

@@ -16,13 +16,23 @@ use Rattle.session.specs.Claims.{BytesAreTheLines, ChunksAreOneInput}
 abbrev then : Ledger → List ℕ → ℕ → Bool → Session
 then l line b ends = cond ends (record { ledger = afterLine l line; line = [] }) (record { ledger = l; line = line ++ b ∷ [] })
 
-bytes-from : (input line : List ℕ) (l : Ledger) → writtenFor (record { ledger = l; line = line }) input ++ writtenAtEnd (sessionAfter (record { ledger = l; line = line }) input) ≡ answered l (linesFrom line input)
+-- what is written for an input, its end included
+abbrev whole : List ℕ → List ℕ → Ledger → List ℕ
+whole input line l =
+    let s : Session = record { ledger = l; line = line } in
+    writtenFor s input ++ writtenAtEnd (sessionAfter s input)
+
+bytes-from : (input line : List ℕ) (l : Ledger) → whole input line l ≡ answered l (linesFrom line input)
 unfolding writtenFor sessionAfter linesFrom answered
 bytes-from [] [] l = refl
 bytes-from [] (b ∷ line) l = sym (append-nil (lineAnswered l (b ∷ line)))
 bytes-from (b ∷ input) line l = go (eqb b newline) (bytes-from input)
   where
-    go : (ends : Bool) → ((line′ : List ℕ) (l′ : Ledger) → writtenFor (record { ledger = l′; line = line′ }) input ++ writtenAtEnd (sessionAfter (record { ledger = l′; line = line′ }) input) ≡ answered l′ (linesFrom line′ input)) → (cond ends (lineAnswered l line) [] ++ writtenFor (then l line b ends) input) ++ writtenAtEnd (sessionAfter (then l line b ends) input) ≡ answered l (cond ends (line ∷ linesFrom [] input) (linesFrom (line ++ b ∷ []) input))
+    go :
+        (ends : Bool)
+        → ((line′ : List ℕ) (l′ : Ledger) → whole input line′ l′ ≡ answered l′ (linesFrom line′ input))
+        → (cond ends (lineAnswered l line) [] ++ writtenFor (then l line b ends) input) ++ writtenAtEnd (sessionAfter (then l line b ends) input)
+        ≡ answered l (cond ends (line ∷ linesFrom [] input) (linesFrom (line ++ b ∷ []) input))
     go true more =
         append-assoc (lineAnswered l line) (writtenFor (then l line b true) input) (writtenAtEnd (sessionAfter (then l line b true) input))
         ∙ ap (λ (x : List ℕ). lineAnswered l line ++ x) (more [] (afterLine l line))

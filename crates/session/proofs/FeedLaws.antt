@@ -1,48 +1,36 @@
--- What the byte machine's functions rest on: the first 62 bytes of a line tell its call; a byte held or a line answered is one step of the session;
+-- What the byte machine's functions rest on: the first bytes of a line tell its call; a byte held or a line answered is one step of the session;
 -- and steps follow one another.
 -- Assumes nothing.
 use mathlib.Core.Path.{_≡_, refl, sym, ap, ap₂, subst, _∙_}
 use mathlib.Core.Bool.{Bool, true, false, cond}
 use mathlib.Core.List.{List, [], _∷_, _++_, append-assoc, append-nil}
-use Prim.Native.Nat.{ℕ, zero, suc, _+_, _*_, _-_, _<_, _≤_}
+use Prim.Native.Nat.{ℕ, zero, suc, _+_, _-_, _<_, _≤_}
 use native.Mathlib.Omega.{arith}
-use Prim.Native.Char.{code}
-use lib.Dec.{eqb, leb}
+use lib.Dec.{leb}
 use lib.IntN.{ℤ}
 use lib.ListN.{length, getD, take, drop, set, length-append, length-drop}
 use lib.Seq.{take-all, take-append-seam, take-append-add, take-suc, take-suc-set, length-take-le, take-nil}
 use borrow.Author.Tests.{eq-eqb, ne-eqb, leb-true, leb-false}
 use Rattle.ledger.specs.Machine.{Ledger}
 use Rattle.history.specs.Points.{Point}
-use Rattle.lines.specs.Lines.{width, Written}
-use Rattle.lines.specs.Reading.{readLine, numbersAfter, callOf}
-use Rattle.lines.specs.declared.LineCall.{LineCall}
-use Rattle.lines.specs.declared.LineCall.the-variants.{NoCall}
+use Rattle.lines.specs.Lines.{lineLength, Written}
+use Rattle.lines.specs.Reading.{countOf, readLine}
+use Rattle.lines.proofs.ReadingLaws.{few-follow}
+use Rattle.lines.specs.declared.Line.{Line}
+use Rattle.lines.specs.declared.Line.the-variants.{NoCall}
 use Rattle.session.specs.Replay.{newline, listLength, answerTo, next, lineAnswered, afterLine, isEmpty}
-use Rattle.session.specs.Session.{Session, taking, writing, sessionAfter, writtenFor, wordsIn, lineBytes, answerBytes, Stands, AtPoint, AnswersLine, CanTake, Holds, EndsLine, Takes, Feeds, Ends}
+use Rattle.records.specs.Words.{words}
+use Rattle.session.specs.Session.{Session, taking, writing, sessionAfter, writtenFor, lineBytes, answerBytes, Stands, AtPoint, AnswersLine, CanTake, Holds, EndsLine, Takes, Feeds, Ends}
 use Rattle.session.specs.declared.feeding.Place.{Place}
 
 -- ---- the first bytes of a line
 
--- no letter is followed by more than six numbers
-few-numbers : (letter : ℕ) → numbersAfter letter ≤ 6
-unfolding numbersAfter
-few-numbers letter = go (eqb letter (code "O")) (eqb letter (code "C")) (eqb letter (code "D")) (eqb letter (code "A")) (eqb letter (code "U")) (eqb letter (code "Q"))
-  where
-    go : (o c d a u q : Bool) → cond o 1 (cond c 1 (cond d 2 (cond a 6 (cond u 6 (cond q 6 0))))) ≤ 6
-    go true c d a u q = omega arith
-    go false true d a u q = omega arith
-    go false false true a u q = omega arith
-    go false false false true u q = omega arith
-    go false false false false true q = omega arith
-    go false false false false false true = omega arith
-    go false false false false false false = omega arith
-
 long-is-no-call : (line : List ℕ) → lineBytes ≤ length line → readLine line ≡ NoCall
 unfolding readLine
 long-is-no-call line h =
-    ap (λ (b : Bool). cond b (callOf (getD line 0 0) line) NoCall)
-    (ne-eqb (length line) (1 + width * numbersAfter (getD line 0 0)) (λ e. let f = few-numbers (getD line 0 0) in omega arith))
+    let letter = getD line 0 0 in
+    let e = ne-eqb (length line) (lineLength (countOf letter)) (λ e. let f = few-follow letter in omega arith) in
+    simp e
 
 pub first-bytes-tell : (line : List ℕ) → readLine (take lineBytes line) ≡ readLine line
 first-bytes-tell line = go (leb (length line) lineBytes) refl
@@ -108,7 +96,9 @@ module _ (out text ys : List ℕ) (filled r : ℕ) (h : filled ≤ length out) (
   written-within e =
       omega (arith, e, length-take-le (length out - filled) (drop filled out) (omega (arith, length-drop filled out)), w .count, ap length (w .bytes), length-append text kept)
 
-module _ (line : List ℕ) (at : Place) (store table store′ table′ : List ℤ) (out ys : List ℕ) (r : ℕ) (h : at .filled ≤ length out) (p : AtPoint store table) (a : AnswersLine (take (at .held) line) store table store′ table′ (behind out (at .filled)) ys r) (e : length ys ≡ length (behind out (at .filled))) where
+module _
+    (line : List ℕ) (at : Place) (store table store′ table′ : List ℤ) (out ys : List ℕ) (r : ℕ) (h : at .filled ≤ length out) (p : AtPoint store table)
+    (a : AnswersLine (take (at .held) line) store table store′ table′ (behind out (at .filled)) ys r) (e : length ys ≡ length (behind out (at .filled))) where
   pub answer-fits : at .filled + r ≤ length out
   answer-fits = written-within out (lineAnswered (p .ledger) (take (at .held) line)) ys (at .filled) r h (a .writes (p .ledger) (p .point)) e
 
@@ -123,15 +113,20 @@ module _ (line : List ℕ) (at : Place) (store table store′ table′ : List �
 
 module _ (b : ℕ) (line : List ℕ) (at : Place) (store table : List ℤ) (out : List ℕ) where
   -- the line ends
-  pub newline-taken : b ≡ newline → (store′ table′ : List ℤ) (out′ : List ℕ) (r : ℕ) → length line ≡ lineBytes → EndsLine line at store table store′ table′ out out′ r → Takes b store table store′ table′ line line out out′ at (record { held = 0; filled = r })
+  pub newline-taken :
+      b ≡ newline
+      → (store′ table′ : List ℤ) (out′ : List ℕ) (r : ℕ)
+      → length line ≡ lineBytes
+      → EndsLine line at store table store′ table′ out out′ r
+      → Takes b store table store′ table′ line line out out′ at (record { held = 0; filled = r })
   newline-taken e store′ table′ out′ r long a = record {
     stands = λ s k. rw (eq-eqb b newline e) (record {
-      point = subst (λ (c : LineCall). Point (next (s .ledger) c) (wordsIn store′ table′)) (told s k) (a .leads (s .ledger) (k .point));
+      point = subst (λ (c : Line). Point (next (s .ledger) c) (words store′ table′)) (told s k) (a .leads (s .ledger) (k .point));
       few = omega arith;
       begins = sym (take-nil lineBytes);
       long = long;
     });
-    writes = λ s k. rw (eq-eqb b newline e) (a .writes (s .ledger) (k .point) ∙ ap (λ (c : LineCall). take (at .filled) out ++ (answerTo (s .ledger) c ++ newline ∷ [])) (told s k));
+    writes = λ s k. rw (eq-eqb b newline e) (a .writes (s .ledger) (k .point) ∙ ap (λ (c : Line). take (at .filled) out ++ (answerTo (s .ledger) c ++ newline ∷ [])) (told s k));
     fits = a .fits;
   }
     where
@@ -139,7 +134,14 @@ module _ (b : ℕ) (line : List ℕ) (at : Place) (store table : List ℤ) (out 
       told s k = ap readLine (k .begins) ∙ first-bytes-tell (s .line)
 
   -- one more byte of the line
-  pub other-taken : (b ≡ newline → ⊥) → (line′ : List ℕ) (r : ℕ) → length line ≡ lineBytes → length line′ ≡ length line → at .filled ≤ length out → Holds line line′ (at .held) b r → Takes b store table store table line line′ out out at (record { held = r; filled = at .filled })
+  pub other-taken :
+      (b ≡ newline → ⊥)
+      → (line′ : List ℕ) (r : ℕ)
+      → length line ≡ lineBytes
+      → length line′ ≡ length line
+      → at .filled ≤ length out
+      → Holds line line′ (at .held) b r
+      → Takes b store table store table line line′ out out at (record { held = r; filled = at .filled })
   other-taken ne line′ r long long′ h a = record {
     stands = λ s k. rw (ne-eqb b newline ne) (record {
       point = k .point;
@@ -152,12 +154,18 @@ module _ (b : ℕ) (line : List ℕ) (at : Place) (store table : List ℤ) (out 
   }
 
 -- the bytes held, by themselves, are a session that the buffers stand for
-pub alone : (store table : List ℤ) (line : List ℕ) (used : ℕ) (p : AtPoint store table) → length line ≡ lineBytes → used ≤ lineBytes → Stands (record { ledger = p .ledger; line = take used line }) store table line used
+pub alone :
+    (store table : List ℤ) (line : List ℕ) (used : ℕ) (p : AtPoint store table)
+    → length line ≡ lineBytes
+    → used ≤ lineBytes
+    → Stands (record { ledger = p .ledger; line = take used line }) store table line used
 alone store table line used p long few =
     record { point = p .point; few = few; begins = sym (take-all lineBytes (take used line) (omega (arith, length-take-le used line (omega (arith, long))))); long = long }
 
 -- so a byte leads to a point, and to bytes of a line
-module _ (b : ℕ) (store table store′ table′ : List ℤ) (list line line′ out out′ : List ℕ) (at at′ : Place) (can : CanTake store table list line out at) (t : Takes b store table store′ table′ line line′ out out′ at at′) where
+module _
+    (b : ℕ) (store table store′ table′ : List ℤ) (list line line′ out out′ : List ℕ) (at at′ : Place) (can : CanTake store table list line out at)
+    (t : Takes b store table store′ table′ line line′ out out′ at at′) where
   abbrev own : Session
   own = record { ledger = can .at-point .ledger; line = take (at .held) line }
 
@@ -226,7 +234,13 @@ module _ (chunk : List ℕ) (store₀ table₀ : List ℤ) (line₀ : List ℕ) 
       room = omega (arith, going .room);
     }
 
-    pub going-on : at .filled ≤ length out - answerBytes → (h : i < length chunk) (store′ table′ : List ℤ) (list′ line′ out′ : List ℕ) (at′ : Place) → length list′ ≡ length list → length out′ ≡ length out → Takes (getD chunk i 0) store table store′ table′ line line′ out out′ at at′ → Going store′ table′ list′ line′ out′ at′ (i + 1)
+    pub going-on :
+        at .filled ≤ length out - answerBytes
+        → (h : i < length chunk) (store′ table′ : List ℤ) (list′ line′ out′ : List ℕ) (at′ : Place)
+        → length list′ ≡ length list
+        → length out′ ≡ length out
+        → Takes (getD chunk i 0) store table store′ table′ line line′ out out′ at at′
+        → Going store′ table′ list′ line′ out′ at′ (i + 1)
     going-on room h store′ table′ list′ line′ out′ at′ kept kept′ t =
         let b = getD chunk i 0 in
         let can = can-take room in
@@ -240,7 +254,9 @@ module _ (chunk : List ℕ) (store₀ table₀ : List ℤ) (line₀ : List ℕ) 
           room = omega (arith, going .room);
           fits = t .fits;
           first = λ e. absurd (omega arith);
-          stands = λ s k. subst (λ (x : Session). Stands x store′ table′ line′ (at′ .held)) (sym (ap (sessionAfter s) more ∙ session-one-more (take i chunk) s b)) (t .stands (sessionAfter s (take i chunk)) (going .stands s k));
+          stands = λ s k.
+              subst (λ (x : Session). Stands x store′ table′ line′ (at′ .held)) (sym (ap (sessionAfter s) more ∙ session-one-more (take i chunk) s b))
+              (t .stands (sessionAfter s (take i chunk)) (going .stands s k));
           writes = λ s k.
               t .writes (sessionAfter s (take i chunk)) (going .stands s k)
               ∙ ap (λ (x : List ℕ). x ++ writing (sessionAfter s (take i chunk)) b) (going .writes s k)
@@ -276,7 +292,7 @@ module _ (store table : List ℤ) (line : List ℕ) (out : List ℕ) where
 
   pub ends-empty : (used : ℕ) → used ≡ 0 → Ends store table store table line out used 0
   ends-empty used e = record {
-    leads = λ s k. subst (λ (l : Ledger). Point l (wordsIn store table)) (sym (ap (λ (l : List ℕ). cond (isEmpty l) (s .ledger) (afterLine (s .ledger) l)) (none s k))) (k .point);
+    leads = λ s k. subst (λ (l : Ledger). Point l (words store table)) (sym (ap (λ (l : List ℕ). cond (isEmpty l) (s .ledger) (afterLine (s .ledger) l)) (none s k))) (k .point);
     writes = λ s k. sym (ap (λ (l : List ℕ). cond (isEmpty l) [] (lineAnswered (s .ledger) l)) (none s k));
     fits = omega arith;
   }
@@ -292,12 +308,12 @@ module _ (store table : List ℤ) (line : List ℕ) (out : List ℕ) where
       → Ends store table store′ table′ line out′ used r
   ends-line used h store′ table′ out′ r a = record {
     leads = λ s k.
-        subst (λ (l : Ledger). Point l (wordsIn store′ table′))
+        subst (λ (l : Ledger). Point l (words store′ table′))
         (ap (next (s .ledger)) (told s k) ∙ sym (ap (λ (b : Bool). cond b (s .ledger) (afterLine (s .ledger) (s .line))) (some-held s k)))
         (a .leads (s .ledger) (k .point));
     writes = λ s k.
         a .writes (s .ledger) (k .point)
-        ∙ ap (λ (c : LineCall). answerTo (s .ledger) c ++ newline ∷ []) (told s k)
+        ∙ ap (λ (c : Line). answerTo (s .ledger) c ++ newline ∷ []) (told s k)
         ∙ sym (ap (λ (b : Bool). cond b [] (lineAnswered (s .ledger) (s .line))) (some-held s k));
     fits = a .fits;
   }

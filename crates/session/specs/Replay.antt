@@ -10,11 +10,12 @@ use Rattle.grid.specs.Units.{capacity}
 use Rattle.ledger.specs.Answers.{isAccepted}
 use Rattle.ledger.specs.Machine.{Ledger, opened}
 use Rattle.ledger.specs.Calls as L
-use Rattle.ledger.specs.Calls.{Reply, answerOfOpen}
-use Rattle.lines.specs.Lines.{answerLine, noCallLine}
+use Rattle.ledger.specs.Calls.{Fed, Reply, answerOfOpen}
+use Rattle.ledger.specs.declared.Call.{Call}
+use Rattle.lines.specs.Lines.{letterOf, answerLine, noCallLine}
 use Rattle.lines.specs.Reading.{readLine}
-use Rattle.lines.specs.declared.LineCall.{LineCall}
-use Rattle.lines.specs.declared.LineCall.the-variants.{Open, Clock, Add, Update, Drop, Ask, NoCall}
+use Rattle.lines.specs.declared.Line.{Line}
+use Rattle.lines.specs.declared.Line.the-variants as Line
 
 abbrev pub newline : ℕ
 newline = code "\n"
@@ -25,28 +26,25 @@ newline = code "\n"
 abbrev pub listLength : ℕ
 listLength = capacity
 
-abbrev pub told : ℕ → Reply → List ℕ
-told letter reply = answerLine letter (reply .answer) (reply .ids)
+-- what the ledger is fed of a line's call
+abbrev pub fedOf : Call → Fed
+fedOf call = record { call = call; room = listLength }
+
+-- the letter of the line, and what the call gives back
+abbrev pub told : Line → Reply → List ℕ
+told line reply = answerLine (letterOf line) (reply .answer) (reply .ids)
 
 -- a line's answer, without its newline
-unfoldable pub answerTo : Ledger → LineCall → List ℕ
-answerTo l (Open t) = answerLine (code "O") (answerOfOpen t) []
-answerTo l (Clock t) = told (code "C") (L.replyTo l (L.clock t))
-answerTo l (Add r) = told (code "A") (L.replyTo l (L.add r))
-answerTo l (Update r) = told (code "U") (L.replyTo l (L.report r))
-answerTo l (Drop id t) = told (code "D") (L.replyTo l (L.drop id t))
-answerTo l (Ask method asked q) = told (code "Q") (L.replyTo l (L.ask method asked q listLength))
-answerTo l NoCall = noCallLine
+unfoldable pub answerTo : Ledger → Line → List ℕ
+answerTo l (Line.Open t) = told (Line.Open t) (record { answer = answerOfOpen t; ids = [] })
+answerTo l (Line.Call call) = told (Line.Call call) (L.replyTo l (fedOf call))
+answerTo l Line.NoCall = noCallLine
 
 -- the ledger after it. An accepted open starts a new list; what is no call changes nothing
-unfoldable pub next : Ledger → LineCall → Ledger
-next l (Open t) = cond (isAccepted (answerOfOpen t)) (opened t) l
-next l (Clock t) = L.next l (L.clock t)
-next l (Add r) = L.next l (L.add r)
-next l (Update r) = L.next l (L.report r)
-next l (Drop id t) = L.next l (L.drop id t)
-next l (Ask method asked q) = L.next l (L.ask method asked q listLength)
-next l NoCall = l
+unfoldable pub next : Ledger → Line → Ledger
+next l (Line.Open t) = cond (isAccepted (answerOfOpen t)) (opened t) l
+next l (Line.Call call) = L.next l (fedOf call)
+next l Line.NoCall = l
 
 abbrev pub lineAnswered : Ledger → List ℕ → List ℕ
 lineAnswered l line = answerTo l (readLine line) ++ newline ∷ []

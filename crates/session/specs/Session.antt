@@ -4,15 +4,17 @@
 use mathlib.Core.Path.{_≡_}
 use mathlib.Core.Bool.{cond}
 use mathlib.Core.List.{List, [], _∷_, _++_}
-use Prim.Native.Nat.{ℕ, suc, _+_, _*_, _<_, _≤_}
+use Prim.Native.Nat.{ℕ, _+_, _<_, _≤_}
 use lib.Dec.{eqb}
 use lib.IntN.{ℤ, pos}
 use lib.ListN.{length, take}
 use Rattle.ledger.specs.Machine.{Ledger, opened}
-use Rattle.history.specs.Index.{Words}
 use Rattle.history.specs.Points.{Point}
-use Rattle.lines.specs.Lines.{width, Written}
-use Rattle.lines.specs.declared.LineCall.{LineCall}
+use Rattle.records.specs.Words.{words}
+use Rattle.ledger.specs.declared.Answer.{Answer}
+use Rattle.ledger.specs.declared.Answer.the-variants.{Accepted, Listed, Refused}
+use Rattle.lines.specs.Lines.{mostNumbers, mostAnswered, lineLength, letterOf, Written}
+use Rattle.lines.specs.declared.Line.{Line}
 use Rattle.session.specs.declared.feeding.Place.{Place}
 use Rattle.session.specs.declared.feeding.Fed.{Fed}
 use Rattle.session.specs.Replay.{newline, listLength, answerTo, next, lineAnswered, afterLine, isEmpty}
@@ -55,43 +57,59 @@ ledgerAtEnd s = cond (isEmpty (s .line)) (s .ledger) (afterLine (s .ledger) (s .
 
 -- ---- the buffers
 
-abbrev pub wordsIn : List ℤ → List ℤ → Words
-wordsIn store table = record { store = store; table = table }
-
--- a call line has at most 61 bytes, so the first 62 tell every line: those of a longer one are no call, as it is
+-- one byte more than the longest call line: those of a longer line are no call, as it is
 abbrev pub lineBytes : ℕ
-lineBytes = 62
+lineBytes = lineLength mostNumbers + 1
 
--- the longest answer: a letter, five numbers and 1,024 ids, and its newline
+-- the longest answer, every id listed, and with its newline
+abbrev pub longestAnswer : ℕ
+longestAnswer = lineLength (mostAnswered + listLength)
+
 abbrev pub answerBytes : ℕ
-answerBytes = 1 + width * (5 + listLength) + 1
+answerBytes = longestAnswer + 1
 
 -- the buffers of a session: store and table at a point of a list whose ledger is the session's, and the first bytes of the line
 pub record Stands (s : Session) (store table : List ℤ) (line : List ℕ) (used : ℕ) : Type 0 where
-  pub point : Point (s .ledger) (wordsIn store table)
+  pub point : Point (s .ledger) (words store table)
   pub few : used ≤ lineBytes
   pub begins : take used line ≡ take lineBytes (s .line)
   pub long : length line ≡ lineBytes
 
--- what a line's call leaves and writes, whatever the list whose point the words are at
-pub record Answers (call : LineCall) (store table store′ table′ : List ℤ) (out out′ : List ℕ) (filled : ℕ) : Type 0 where
-  pub leads : (l : Ledger) → Point l (wordsIn store table) → Point (next l call) (wordsIn store′ table′)
-  pub writes : (l : Ledger) → Point l (wordsIn store table) → Written (answerTo l call) out out′ filled
-
--- the same of a line, whose answer ends with a newline
-pub record AnswersLine (line : List ℕ) (store table store′ table′ : List ℤ) (out out′ : List ℕ) (filled : ℕ) : Type 0 where
-  pub leads : (l : Ledger) → Point l (wordsIn store table) → Point (afterLine l line) (wordsIn store′ table′)
-  pub writes : (l : Ledger) → Point l (wordsIn store table) → Written (lineAnswered l line) out out′ filled
-
 -- store and table are at a point of some list
 pub record AtPoint (store table : List ℤ) : Type 0 where
   pub ledger : Ledger
-  pub point : Point ledger (wordsIn store table)
+  pub point : Point ledger (words store table)
 
--- and there is room for an answer, without its newline
-pub record CanAnswer (store table : List ℤ) (out : List ℕ) : Type 0 where
+-- ---- what the functions of src/answering.rt ask and leave
+
+-- how many ids a call wrote in front of its list
+abbrev pub idsTold : Answer → ℕ
+idsTold (Accepted held) = 0
+idsTold (Listed ids cells useful rounds) = ids
+idsTold (Refused r) = 0
+
+-- at a point of some list, with an answer list of its length and room for an answer
+pub record CanAnswer (most : ℕ) (store table : List ℤ) (list out : List ℕ) : Type 0 where
   pub at-point : AtPoint store table
-  pub room : answerBytes ≤ suc (length out)
+  pub list-long : length list ≡ listLength
+  pub room : most ≤ length out
+
+-- and the letter of a line
+pub record CanTell (line : Line) (letter : ℕ) (store table : List ℤ) (list out : List ℕ) : Type 0 where
+  pub at-point : AtPoint store table
+  pub list-long : length list ≡ listLength
+  pub room : longestAnswer ≤ length out
+  pub letter-is : letter ≡ letterOf line
+
+-- what a line leaves and writes, whatever the list whose point the words are at
+pub record Answers (line : Line) (store table store′ table′ : List ℤ) (out out′ : List ℕ) (filled : ℕ) : Type 0 where
+  pub leads : (l : Ledger) → Point l (words store table) → Point (next l line) (words store′ table′)
+  pub writes : (l : Ledger) → Point l (words store table) → Written (answerTo l line) out out′ filled
+
+-- the same of a line's bytes, whose answer ends with a newline
+pub record AnswersLine (line : List ℕ) (store table store′ table′ : List ℤ) (out out′ : List ℕ) (filled : ℕ) : Type 0 where
+  pub leads : (l : Ledger) → Point l (words store table) → Point (afterLine l line) (words store′ table′)
+  pub writes : (l : Ledger) → Point l (words store table) → Written (lineAnswered l line) out out′ filled
 
 -- ---- what the functions of src/feeding.rt ask and leave
 
@@ -114,8 +132,8 @@ pub record Holds (line line′ : List ℕ) (used b used′ : ℕ) : Type 0 where
 
 -- the bytes held answered as a line, behind the answers before it
 pub record EndsLine (line : List ℕ) (at : Place) (store table store′ table′ : List ℤ) (out out′ : List ℕ) (filled : ℕ) : Type 0 where
-  pub leads : (l : Ledger) → Point l (wordsIn store table) → Point (afterLine l (take (at .held) line)) (wordsIn store′ table′)
-  pub writes : (l : Ledger) → Point l (wordsIn store table) → take filled out′ ≡ take (at .filled) out ++ lineAnswered l (take (at .held) line)
+  pub leads : (l : Ledger) → Point l (words store table) → Point (afterLine l (take (at .held) line)) (words store′ table′)
+  pub writes : (l : Ledger) → Point l (words store table) → take filled out′ ≡ take (at .filled) out ++ lineAnswered l (take (at .held) line)
   pub fits : filled ≤ length out′
 
 -- one byte taken, whatever the session that the buffers stand for
@@ -134,6 +152,6 @@ pub record Feeds (chunk : List ℕ) (store table store′ table′ : List ℤ) (
 
 -- the line that lacks its newline answered
 pub record Ends (store table store′ table′ : List ℤ) (line out′ : List ℕ) (used filled : ℕ) : Type 0 where
-  pub leads : (s : Session) → Stands s store table line used → Point (ledgerAtEnd s) (wordsIn store′ table′)
+  pub leads : (s : Session) → Stands s store table line used → Point (ledgerAtEnd s) (words store′ table′)
   pub writes : (s : Session) → Stands s store table line used → take filled out′ ≡ writtenAtEnd s
   pub fits : filled ≤ length out′

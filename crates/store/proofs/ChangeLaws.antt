@@ -32,7 +32,10 @@ use Rattle.records.proofs.PlaceLaws.{record-at, first-within, within}
 -- ---- a walk over the records, one by one
 
 -- the records that are left at record i
-pub left-at : (n i : ℕ) (s : List ℤ) → i < n → readRecords (n - i) (drop (recordWords * i + recordWords) s) ≡ recordFrom s (recordWords * i + recordWords) ∷ readRecords (n - (i + 1)) (drop (recordWords * (i + 1) + recordWords) s)
+pub left-at :
+    (n i : ℕ) (s : List ℤ)
+    → i < n
+    → readRecords (n - i) (drop (recordWords * i + recordWords) s) ≡ recordFrom s (recordWords * i + recordWords) ∷ readRecords (n - (i + 1)) (drop (recordWords * (i + 1) + recordWords) s)
 unfolding readRecords
 left-at n i s h =
     let e : n - i ≡ suc (n - (i + 1)) = omega arith in
@@ -50,10 +53,14 @@ module _ (f : Record → Bool) (s : List ℤ) (n i : ℕ) (e : firstOf f (record
       let x : firstOf f (readRecords (n - i) (drop (recordWords * i + recordWords) s)) ≡ 0 = rw (left-at n i s h, t) in
       omega arith
 
-  pub walk-more : i < n → f (recordFrom s (recordWords * i + recordWords)) ≡ false → firstOf f (recordsOf s) ≡ i + 1 + firstOf f (readRecords (n - (i + 1)) (drop (recordWords * (i + 1) + recordWords) s))
+  pub walk-more :
+      i < n
+      → f (recordFrom s (recordWords * i + recordWords)) ≡ false
+      → firstOf f (recordsOf s) ≡ i + 1 + firstOf f (readRecords (n - (i + 1)) (drop (recordWords * (i + 1) + recordWords) s))
   unfolding firstOf
   walk-more h t =
-      let x : firstOf f (readRecords (n - i) (drop (recordWords * i + recordWords) s)) ≡ suc (firstOf f (readRecords (n - (i + 1)) (drop (recordWords * (i + 1) + recordWords) s))) = rw (left-at n i s h, t) in
+      let x : firstOf f (readRecords (n - i) (drop (recordWords * i + recordWords) s)) ≡ suc (firstOf f (readRecords (n - (i + 1)) (drop (recordWords * (i + 1) + recordWords) s))) =
+      rw (left-at n i s h, t) in
       omega arith
 
   pub walk-end : n ≤ i → i ≡ firstOf f (recordsOf s)
@@ -71,7 +78,10 @@ pub place-tested : (r a b : Record) (x t : Bool) → a ≡ b → x ≡ precedes 
 place-tested r a b x t e h k = rw (← e, ← k, h)
 
 -- the id that the code looks for, as the machine reads it back
-module _ (s : List ℤ) (n i : ℕ) (id : ℤ) (e : firstOf (hasThat (back w32 id)) (recordsOf s) ≡ i + firstOf (hasThat (back w32 id)) (readRecords (n - i) (drop (recordWords * i + recordWords) s))) (g : mag id < 2 ^ hbits w32) where
+module _
+    (s : List ℤ) (n i : ℕ) (id : ℤ)
+    (e : firstOf (hasThat (back w32 id)) (recordsOf s) ≡ i + firstOf (hasThat (back w32 id)) (readRecords (n - i) (drop (recordWords * i + recordWords) s)))
+    (g : mag id < 2 ^ hbits w32) where
   as-read : firstOf (hasThat (back w32 id)) (recordsOf s) ≡ firstOf (hasThat id) (recordsOf s)
   as-read = ap (λ (z : ℤ). firstOf (hasThat z) (recordsOf s)) (held w32 id g)
 
@@ -85,24 +95,58 @@ pub index-read : (s : List ℤ) (id : ℤ) (p : ℕ) → p ≡ firstOf (hasThat 
 index-read s id p e g = e ∙ ap (λ (z : ℤ). firstOf (hasThat z) (recordsOf s)) (held w32 id g)
 
 -- ---- words moved by seven places, as the code writes them
-pub moved-up : (l w : List ℤ) (i : ℕ) → w ≡ movedUp (pos 0) recordWords l i → recordWords < i → i ≤ length l → mag (getD w (i - 1 - recordWords) (pos 0)) < 2 ^ hbits w32 → set w (i - 1) (back w32 (getD w (i - 1 - recordWords) (pos 0))) ≡ movedUp (pos 0) recordWords l (i - 1)
+pub moved-up :
+    (l w : List ℤ) (i : ℕ)
+    → w ≡ movedUp (pos 0) recordWords l i
+    → recordWords < i
+    → i ≤ length l
+    → mag (getD w (i - 1 - recordWords) (pos 0)) < 2 ^ hbits w32
+    → set w (i - 1) (back w32 (getD w (i - 1 - recordWords) (pos 0))) ≡ movedUp (pos 0) recordWords l (i - 1)
 moved-up l w i e h g f =
     let k : suc (i - 1) ≡ i = omega arith in
     let m = up-more (pos 0) recordWords l (i - 1) (omega arith) (omega arith) in
     rw (held w32 (getD w (i - 1 - recordWords) (pos 0)) f, e) (rw k at m)
 
-pub moved-down : (l w : List ℤ) (i : ℕ) → w ≡ movedDown (pos 0) recordWords l i → i < length l - recordWords → mag (getD w (i + recordWords) (pos 0)) < 2 ^ hbits w32 → set w i (back w32 (getD w (i + recordWords) (pos 0))) ≡ movedDown (pos 0) recordWords l (i + 1)
+pub moved-down :
+    (l w : List ℤ) (i : ℕ)
+    → w ≡ movedDown (pos 0) recordWords l i
+    → i < length l - recordWords
+    → mag (getD w (i + recordWords) (pos 0)) < 2 ^ hbits w32
+    → set w i (back w32 (getD w (i + recordWords) (pos 0))) ≡ movedDown (pos 0) recordWords l (i + 1)
 moved-down l w i e h f = rw (held w32 (getD w (i + recordWords) (pos 0)) f, e) (down-more (pos 0) recordWords l i (omega arith))
 
 -- a record written over seven words
-written : (s : List ℤ) (k : ℕ) (a b c d e f g : ℤ) → k + 7 ≤ length s → set (set (set (set (set (set (set s k a) (k + 1) b) (k + 2) c) (k + 3) d) (k + 4) e) (k + 5) f) (k + 6) g ≡ take k s ++ ((a ∷ b ∷ c ∷ d ∷ e ∷ f ∷ g ∷ []) ++ drop (k + 7) s)
+written :
+    (s : List ℤ) (k : ℕ) (a b c d e f g : ℤ)
+    → k + 7 ≤ length s
+    → set (set (set (set (set (set (set s k a) (k + 1) b) (k + 2) c) (k + 3) d) (k + 4) e) (k + 5) f) (k + 6) g ≡ take k s ++ ((a ∷ b ∷ c ∷ d ∷ e ∷ f ∷ g ∷ []) ++ drop (k + 7) s)
 written s k a b c d e f g h =
     let vs = a ∷ b ∷ c ∷ d ∷ e ∷ f ∷ g ∷ [] in
     simp towards-suc (sets-eq vs s k h ∙ append-assoc (take k s) vs (drop (k + 7) s) ∙ simp towards-suc)
 
-pub write-words : (s : List ℤ) (k : ℕ) (r : Record) → k + recordWords ≤ length s → mag (r .key) < 2 ^ hbits w32 → mag (r .report .id) < 2 ^ hbits w32 → mag (r .report .t) < 2 ^ hbits w32 → mag (r .report .x) < 2 ^ hbits w32 → mag (r .report .y) < 2 ^ hbits w32 → mag (r .report .vx) < 2 ^ hbits w32 → mag (r .report .vy) < 2 ^ hbits w32 → set (set (set (set (set (set (set s k (back w32 (r .key))) (k + 1) (back w32 (r .report .id))) (k + 2) (back w32 (r .report .t))) (k + 3) (back w32 (r .report .x))) (k + 4) (back w32 (r .report .y))) (k + 5) (back w32 (r .report .vx))) (k + 6) (back w32 (r .report .vy)) ≡ take k s ++ (wordsOf r ++ drop (k + recordWords) s)
+pub write-words :
+    (s : List ℤ) (k : ℕ) (r : Record)
+    → k + recordWords ≤ length s
+    → mag (r .key) < 2 ^ hbits w32
+    → mag (r .report .id) < 2 ^ hbits w32
+    → mag (r .report .t) < 2 ^ hbits w32
+    → mag (r .report .x) < 2 ^ hbits w32
+    → mag (r .report .y) < 2 ^ hbits w32
+    → mag (r .report .vx) < 2 ^ hbits w32
+    → mag (r .report .vy) < 2 ^ hbits w32
+    → set (set (set (set (set (set (set s k (back w32 (r .key))) (k + 1) (back w32 (r .report .id))) (k + 2) (back w32 (r .report .t)))
+    (k + 3) (back w32 (r .report .x))) (k + 4) (back w32 (r .report .y))) (k + 5) (back w32 (r .report .vx))) (k + 6) (back w32 (r .report .vy))
+    ≡ take k s ++ (wordsOf r ++ drop (k + recordWords) s)
 write-words s k r h ka ida ta xa ya vxa vya =
-    rw (held w32 (r .key) ka, held w32 (r .report .id) ida, held w32 (r .report .t) ta, held w32 (r .report .x) xa, held w32 (r .report .y) ya, held w32 (r .report .vx) vxa, held w32 (r .report .vy) vya)
+    rw (
+      held w32 (r .key) ka,
+      held w32 (r .report .id) ida,
+      held w32 (r .report .t) ta,
+      held w32 (r .report .x) xa,
+      held w32 (r .report .y) ya,
+      held w32 (r .report .vx) vxa,
+      held w32 (r .report .vy) vya,
+    )
     (written s k (r .key) (r .report .id) (r .report .t) (r .report .x) (r .report .y) (r .report .vx) (r .report .vy) h)
 
 -- ---- the place of a record and the record of an id
@@ -128,7 +172,10 @@ unfolding firstOf inserted
 inserted-at r [] = refl
 inserted-at r (a ∷ rs) = go (precedes r a) (inserted-at r rs)
   where
-    go : (b : Bool) → inserted r rs ≡ take (firstOf (precedes r) rs) rs ++ (r ∷ drop (firstOf (precedes r) rs) rs) → cond b (r ∷ a ∷ rs) (a ∷ inserted r rs) ≡ take (cond b 0 (suc (firstOf (precedes r) rs))) (a ∷ rs) ++ (r ∷ drop (cond b 0 (suc (firstOf (precedes r) rs))) (a ∷ rs))
+    go :
+        (b : Bool)
+        → inserted r rs ≡ take (firstOf (precedes r) rs) rs ++ (r ∷ drop (firstOf (precedes r) rs) rs)
+        → cond b (r ∷ a ∷ rs) (a ∷ inserted r rs) ≡ take (cond b 0 (suc (firstOf (precedes r) rs))) (a ∷ rs) ++ (r ∷ drop (cond b 0 (suc (firstOf (precedes r) rs))) (a ∷ rs))
     go true h = refl
     go false h = ap (λ (l : List Record). a ∷ l) h
 
@@ -137,7 +184,10 @@ unfolding firstOf removed
 removed-at id [] = refl
 removed-at id (a ∷ rs) = go (eqZ (a .report .id) id) (removed-at id rs)
   where
-    go : (b : Bool) → removed id rs ≡ take (indexOf id rs) rs ++ drop (indexOf id rs + 1) rs → cond b rs (a ∷ removed id rs) ≡ take (cond b 0 (suc (indexOf id rs))) (a ∷ rs) ++ drop (cond b 0 (suc (indexOf id rs)) + 1) (a ∷ rs)
+    go :
+        (b : Bool)
+        → removed id rs ≡ take (indexOf id rs) rs ++ drop (indexOf id rs + 1) rs
+        → cond b rs (a ∷ removed id rs) ≡ take (cond b 0 (suc (indexOf id rs))) (a ∷ rs) ++ drop (cond b 0 (suc (indexOf id rs)) + 1) (a ∷ rs)
     go true h = refl
     go false h =
         let k : suc (indexOf id rs) + 1 ≡ suc (indexOf id rs + 1) = omega arith in
@@ -173,7 +223,17 @@ store-split now rs i =
     (ap (λ (l : List ℤ). l ++ z) w ∙ append-assoc (wordsOfAll (take i rs)) (wordsOfAll (drop i rs)) z)
 
 -- seven words opened at a place, and written over
-pub opened : (a b z e v w ys m : List ℤ) (k n : ℕ) → length a ≡ k → length z ≡ recordWords → n ≡ length b + recordWords → (s : List ℤ) → s ≡ a ++ (b ++ (z ++ e)) → w ≡ take n (drop k s) → ys ≡ take recordWords w ++ take (length w - recordWords) w → m ≡ take k s ++ (ys ++ drop n (drop k s)) → take k m ++ (v ++ drop (k + recordWords) m) ≡ a ++ (v ++ (b ++ e))
+pub opened :
+    (a b z e v w ys m : List ℤ) (k n : ℕ)
+    → length a ≡ k
+    → length z ≡ recordWords
+    → n ≡ length b + recordWords
+    → (s : List ℤ)
+    → s ≡ a ++ (b ++ (z ++ e))
+    → w ≡ take n (drop k s)
+    → ys ≡ take recordWords w ++ take (length w - recordWords) w
+    → m ≡ take k s ++ (ys ++ drop n (drop k s))
+    → take k m ++ (v ++ drop (k + recordWords) m) ≡ a ++ (v ++ (b ++ e))
 opened a b z e v w ys m k n ka kz kn s es ew ey em =
     let x = b ++ z in
     let t = take recordWords x in
@@ -197,7 +257,16 @@ opened a b z e v w ys m k n ka kz kn s es ew ey em =
     λ i. tm i ++ (v ++ dm i)
 
 -- the first seven words closed at a place
-pub closed : (a v b e w ys : List ℤ) (k n : ℕ) → length a ≡ k → length v ≡ recordWords → n ≡ recordWords + length b → (s : List ℤ) → s ≡ a ++ (v ++ (b ++ e)) → w ≡ take n (drop k s) → ys ≡ drop recordWords w ++ zeros recordWords → take k s ++ (ys ++ drop n (drop k s)) ≡ a ++ (b ++ (zeros recordWords ++ e))
+pub closed :
+    (a v b e w ys : List ℤ) (k n : ℕ)
+    → length a ≡ k
+    → length v ≡ recordWords
+    → n ≡ recordWords + length b
+    → (s : List ℤ)
+    → s ≡ a ++ (v ++ (b ++ e))
+    → w ≡ take n (drop k s)
+    → ys ≡ drop recordWords w ++ zeros recordWords
+    → take k s ++ (ys ++ drop n (drop k s)) ≡ a ++ (b ++ (zeros recordWords ++ e))
 closed a v b e w ys k n ka kv kn s es ew ey =
     let x = v ++ b in
     let z = zeros recordWords in
@@ -217,7 +286,13 @@ pub down-done : (l w : List ℤ) (i : ℕ) → w ≡ movedDown (pos 0) recordWor
 down-done l w i e h g = e ∙ down-end (pos 0) recordWords l i (omega arith)
 
 -- the first seven words dropped and the last seven zeroed
-pub closed-up : (l m x : List ℤ) (r : Record) → recordWords ≤ length l → m ≡ drop recordWords l ++ drop (length l - recordWords) l → wordsOf r ≡ replicate recordWords (pos 0) → x ≡ take (length l - recordWords) m ++ (wordsOf r ++ drop (length l - recordWords + recordWords) m) → x ≡ drop recordWords l ++ replicate recordWords (pos 0)
+pub closed-up :
+    (l m x : List ℤ) (r : Record)
+    → recordWords ≤ length l
+    → m ≡ drop recordWords l ++ drop (length l - recordWords) l
+    → wordsOf r ≡ replicate recordWords (pos 0)
+    → x ≡ take (length l - recordWords) m ++ (wordsOf r ++ drop (length l - recordWords + recordWords) m)
+    → x ≡ drop recordWords l ++ replicate recordWords (pos 0)
 closed-up l m v r h e f g =
     let x = drop recordWords l in
     let y = drop (length l - recordWords) l in
@@ -233,7 +308,9 @@ more-zeros n h =
     let k : recordWords * (capacity - n) ≡ recordWords + recordWords * (capacity - suc n) = omega arith in
     rw k (sym (replicate-append-replicate recordWords (recordWords * (capacity - suc n)) (pos 0)))
 
-store-with : (now : ℤ) (r : Record) (rs : List Record) (i : ℕ) → storeOf now (take i rs ++ (r ∷ drop i rs)) ≡ front now (suc (length rs)) i rs ++ (wordsOf r ++ (wordsOfAll (drop i rs) ++ zeros (recordWords * (capacity - suc (length rs)))))
+store-with :
+    (now : ℤ) (r : Record) (rs : List Record) (i : ℕ)
+    → storeOf now (take i rs ++ (r ∷ drop i rs)) ≡ front now (suc (length rs)) i rs ++ (wordsOf r ++ (wordsOfAll (drop i rs) ++ zeros (recordWords * (capacity - suc (length rs)))))
 unfolding storeOf wordsOfAll
 store-with now r rs i =
     let front = wordsOfAll (take i rs) in
@@ -246,7 +323,19 @@ store-with now r rs i =
     (λ (l : List ℤ). header now (suc (length rs)) ++ l)
     (append-assoc front back (zeros (recordWords * (capacity - suc (length rs)))))
 
-pub insert-done : (s : List ℤ) (r : Record) (n p : ℕ) → HasWords s → length (recordsOf s) < capacity → n ≡ heldOf s → p ≡ placeOf r (recordsOf s) → (ys m m′ : List ℤ) → let k = recordWords * p + recordWords in let e = recordWords * n + recordWords + recordWords in ys ≡ take recordWords (take (e - k) (drop k s)) ++ take (length (take (e - k) (drop k s)) - recordWords) (take (e - k) (drop k s)) → m ≡ take k (take k s ++ (ys ++ drop (e - k) (drop k s))) ++ (wordsOf r ++ drop (k + recordWords) (take k s ++ (ys ++ drop (e - k) (drop k s)))) → m′ ≡ set m 1 (pos (n + 1)) → m′ ≡ storeOf (nowOf s) (inserted r (recordsOf s))
+pub insert-done :
+    (s : List ℤ) (r : Record) (n p : ℕ)
+    → HasWords s
+    → length (recordsOf s) < capacity
+    → n ≡ heldOf s
+    → p ≡ placeOf r (recordsOf s)
+    → (ys m m′ : List ℤ)
+    → let k = recordWords * p + recordWords in
+    let e = recordWords * n + recordWords + recordWords in
+    ys ≡ take recordWords (take (e - k) (drop k s)) ++ take (length (take (e - k) (drop k s)) - recordWords) (take (e - k) (drop k s))
+    → m ≡ take k (take k s ++ (ys ++ drop (e - k) (drop k s))) ++ (wordsOf r ++ drop (k + recordWords) (take k s ++ (ys ++ drop (e - k) (drop k s))))
+    → m′ ≡ set m 1 (pos (n + 1))
+    → m′ ≡ storeOf (nowOf s) (inserted r (recordsOf s))
 insert-done s r n p q few en ep ys m m′ ey em em′ =
     let now = nowOf s in
     let rs = recordsOf s in
@@ -260,7 +349,8 @@ insert-done s r n p q few en ep ys m m′ ey em em′ =
     let es : s ≡ a ++ (b ++ (zeros recordWords ++ z)) =
     q .words ∙ store-split now rs p ∙ ap (λ (l : List ℤ). a ++ (b ++ l)) (more-zeros (length rs) few) in
     let lb : length b ≡ recordWords * (length rs - p) = words-length (drop p rs) ∙ ap (λ (j : ℕ). recordWords * j) (length-drop p rs) in
-    let o = opened a b (zeros recordWords) z (wordsOf r) (take (e - k) (drop k s)) ys (take k s ++ (ys ++ drop (e - k) (drop k s))) k (e - k) (front-length now (length rs) p rs within) refl (omega arith) s es refl ey refl in
+    let o = opened a b (zeros recordWords) z (wordsOf r) (take (e - k) (drop k s)) ys
+    (take k s ++ (ys ++ drop (e - k) (drop k s))) k (e - k) (front-length now (length rs) p rs within) refl (omega arith) s es refl ey refl in
     let next : n + 1 ≡ suc (length rs) = omega arith in
     em′
     ∙ ap (λ (l : List ℤ). set l 1 (pos (n + 1))) (em ∙ o)
@@ -270,7 +360,11 @@ insert-done s r n p q few en ep ys m m′ ey em em′ =
     ∙ ap (storeOf now) (sym (inserted-at r rs))
 
 -- ---- a record taken out, as a change of the words
-store-without : (now : ℤ) (rs : List Record) (i : ℕ) → i < length rs → length rs ≤ capacity → storeOf now (take i rs ++ drop (i + 1) rs) ≡ front now (length rs - 1) i rs ++ (wordsOfAll (drop (i + 1) rs) ++ (zeros recordWords ++ zeros (recordWords * (capacity - length rs))))
+store-without :
+    (now : ℤ) (rs : List Record) (i : ℕ)
+    → i < length rs
+    → length rs ≤ capacity
+    → storeOf now (take i rs ++ drop (i + 1) rs) ≡ front now (length rs - 1) i rs ++ (wordsOfAll (drop (i + 1) rs) ++ (zeros recordWords ++ zeros (recordWords * (capacity - length rs))))
 unfolding storeOf
 store-without now rs i h few =
     let front = wordsOfAll (take i rs) in
@@ -286,7 +380,17 @@ store-without now rs i h few =
     (λ (l : List ℤ). header now (length rs - 1) ++ l)
     (append-assoc front back (zeros (recordWords * (capacity - (length rs - 1)))) ∙ ap (λ (l : List ℤ). front ++ (back ++ l)) z)
 
-pub remove-at-done : (s : List ℤ) (n p : ℕ) → HasWords s → n ≡ heldOf s → p < heldOf s → (ys m : List ℤ) → let k = recordWords * p + recordWords in let e = recordWords * n + recordWords in ys ≡ drop recordWords (take (e - k) (drop k s)) ++ zeros recordWords → m ≡ set (take k s ++ (ys ++ drop (e - k) (drop k s))) 1 (pos (n - 1)) → m ≡ storeOf (nowOf s) (take p (recordsOf s) ++ drop (p + 1) (recordsOf s))
+pub remove-at-done :
+    (s : List ℤ) (n p : ℕ)
+    → HasWords s
+    → n ≡ heldOf s
+    → p < heldOf s
+    → (ys m : List ℤ)
+    → let k = recordWords * p + recordWords in
+    let e = recordWords * n + recordWords in
+    ys ≡ drop recordWords (take (e - k) (drop k s)) ++ zeros recordWords
+    → m ≡ set (take k s ++ (ys ++ drop (e - k) (drop k s))) 1 (pos (n - 1))
+    → m ≡ storeOf (nowOf s) (take p (recordsOf s) ++ drop (p + 1) (recordsOf s))
 unfolding wordsOfAll
 remove-at-done s n p q en h ys m ey em =
     let now = nowOf s in
@@ -310,7 +414,11 @@ remove-at-done s n p q en h ys m ey em =
     ∙ ap (λ (j : ℕ). front now (j - 1) p rs ++ (b ++ (zeros recordWords ++ z))) (sym count)
     ∙ sym (store-without now rs p here few)
 
-pub remove-found : (s m : List ℤ) (id : ℤ) (p : ℕ) → p ≡ indexOf id (recordsOf s) → m ≡ storeOf (nowOf s) (take p (recordsOf s) ++ drop (p + 1) (recordsOf s)) → m ≡ storeOf (nowOf s) (removed id (recordsOf s))
+pub remove-found :
+    (s m : List ℤ) (id : ℤ) (p : ℕ)
+    → p ≡ indexOf id (recordsOf s)
+    → m ≡ storeOf (nowOf s) (take p (recordsOf s) ++ drop (p + 1) (recordsOf s))
+    → m ≡ storeOf (nowOf s) (removed id (recordsOf s))
 remove-found s m id p ep em =
     let rs = recordsOf s in
     em

@@ -3,21 +3,24 @@
 use mathlib.Core.Path.{_≡_, refl, sym, ap, _∙_}
 use mathlib.Core.Bool.{Bool, true, false, cond, not, _&&_, _||_}
 use mathlib.Core.Logic.{_⊎_, inl, inr, ⊎-elim}
-use mathlib.Core.List.{List, [], _∷_}
-use Prim.Native.Nat.{ℕ, suc, _+_, _-_}
+use mathlib.Core.List.{List, [], _∷_, map}
+use Prim.Native.Nat.{ℕ, suc, _+_, _≤_}
 use native.Mathlib.Omega.{arith}
 use lib.IntN.{ℤ}
-use lib.ListN.{length}
+use lib.ListN.{length, length-map}
 use Rattle.ints.specs.Whole.{eqZ}
+use Rattle.ints.specs.Lists.{passing}
 use Rattle.ints.proofs.Parts.{true-false}
-use Rattle.ints.proofs.Truth.{and-true, and-left, and-right, or-neither, or-swap}
+use Rattle.ints.proofs.Truth.{and-true, and-left, and-right, or-swap}
 use Rattle.ints.proofs.Same.{same-comm}
+use Rattle.rows.specs.Phases.{phaseOf}
 use Rattle.records.specs.Order.{precedes, precedesFirst, isSorted, hasId}
 use Rattle.records.specs.Soundness.{isRanged, allRanged, idsDistinct}
-use Rattle.store.specs.Changes.{inserted, insertedAll, removed, placedIn, livesOn, kept, replaced, steppedRecords}
+use Rattle.store.specs.Changes.{inserted, insertedAll, removed, placedIn, stays, moves, replaced, steppedRecords}
 use Rattle.records.specs.declared.Record.{Record}
-use Rattle.store.proofs.OrderLaws.{precedes-trans, precedes-total, inserted-length, has-inserted, rest-other}
-use Rattle.store.proofs.StepLaws.{placed-ranged}
+use Rattle.records.proofs.SoundLawsRanges.{ranged-parts, parts-ranged}
+use Rattle.records.proofs.SoundLawsKeys.{key-in-below}
+use Rattle.store.proofs.OrderLaws.{precedes-trans, precedes-total, inserted-length, has-inserted, rest-other, has-passing, has-anew, steppedBy}
 
 -- ---- members
 
@@ -43,12 +46,18 @@ in-removed x id (a ∷ rs) h = go (eqZ (a .report .id) id) h (in-removed x id rs
     go true h ih = inr h
     go false h ih = ⊎-elim (λ e. inl e) (λ k. inr (ih k)) h
 
-pub in-kept : (x : Record) (c later : ℕ) (rs : List Record) → Member x (kept c later rs) → Member x rs
-unfolding kept
-in-kept x c later [] h = h
-in-kept x c later (a ∷ rs) h = go (livesOn c later a) h (in-kept x c later rs)
+-- placed anew, from a record there
+in-anew : (x : Record) (p : ℕ) (rs : List Record) → Member x (map (λ r. placedIn p (r .report)) rs) → (r : Record) × Member r rs × (x ≡ placedIn p (r .report))
+in-anew x p [] h = absurd h
+in-anew x p (a ∷ rs) h =
+    ⊎-elim (λ e. (a, inl refl, e)) (λ k. let b = in-anew x p rs k in (b .0, inr (b .1), b .2)) h
+
+in-passing : (x : Record) (test : Record → Bool) (rs : List Record) → Member x (passing test rs) → Member x rs
+unfolding passing
+in-passing x test [] h = h
+in-passing x test (a ∷ rs) h = go (test a) h (in-passing x test rs)
   where
-    go : (b : Bool) → Member x (cond b (a ∷ kept c later rs) (kept c later rs)) → (Member x (kept c later rs) → Member x rs) → Member x (a ∷ rs)
+    go : (b : Bool) → Member x (cond b (a ∷ passing test rs) (passing test rs)) → (Member x (passing test rs) → Member x rs) → Member x (a ∷ rs)
     go true h ih = ⊎-elim (λ e. inl e) (λ k. inr (ih k)) h
     go false h ih = inr (ih h)
 
@@ -133,56 +142,49 @@ removed-length id (a ∷ rs) h = go (eqZ (a .report .id) id) h (removed-length i
     go true k ih = refl
     go false k ih = ap suc (ih k)
 
--- ---- a step of the current phase
+-- ---- a step: who stays and who moves are any two tests
 
-pub kept-sorted : (c later : ℕ) (rs : List Record) → isSorted rs ≡ true → isSorted (kept c later rs) ≡ true
-unfolding kept
-kept-sorted c later [] h = h
-kept-sorted c later (a ∷ rs) h = go (livesOn c later a) (kept-sorted c later rs (sorted-rest a rs h))
+pub passing-sorted : (test : Record → Bool) (rs : List Record) → isSorted rs ≡ true → isSorted (passing test rs) ≡ true
+unfolding passing
+passing-sorted test [] h = h
+passing-sorted test (a ∷ rs) h = go (test a) (passing-sorted test rs (sorted-rest a rs h))
   where
-    go : (b : Bool) → isSorted (kept c later rs) ≡ true → isSorted (cond b (a ∷ kept c later rs) (kept c later rs)) ≡ true
-    go true i = sorted-cons a (kept c later rs) (λ x m. sorted-all a rs h x (in-kept x c later rs m)) i
+    go : (b : Bool) → isSorted (passing test rs) ≡ true → isSorted (cond b (a ∷ passing test rs) (passing test rs)) ≡ true
+    go true i = sorted-cons a (passing test rs) (λ x m. sorted-all a rs h x (in-passing x test rs m)) i
     go false i = i
 
-step-length : (c later : ℕ) (rs : List Record) → length (replaced c later rs) + length (kept c later rs) ≡ length rs
-unfolding kept replaced
-step-length c later [] = refl
-step-length c later (a ∷ rs) = go (livesOn c later a) (step-length c later rs)
+passing-ranged : (test : Record → Bool) (rs : List Record) → allRanged rs ≡ true → allRanged (passing test rs) ≡ true
+unfolding passing allRanged
+passing-ranged test [] h = h
+passing-ranged test (a ∷ rs) h = go (test a) (passing-ranged test rs (and-right (isRanged a) (allRanged rs) h))
   where
-    go : (b : Bool) → length (replaced c later rs) + length (kept c later rs) ≡ length rs → length (cond b (replaced c later rs) (placedIn later (a .report) ∷ replaced c later rs)) + length (cond b (a ∷ kept c later rs) (kept c later rs)) ≡ suc (length rs)
-    go true i = omega arith
-    go false i = omega arith
+    go : (b : Bool) → allRanged (passing test rs) ≡ true → allRanged (cond b (a ∷ passing test rs) (passing test rs)) ≡ true
+    go true i = and-true (isRanged a) (allRanged (passing test rs)) (and-left (isRanged a) (allRanged rs) h) i
+    go false i = i
+
+pub placed-ranged : (p : ℕ) (r : Record) → isRanged r ≡ true → isRanged (placedIn p (r .report)) ≡ true
+placed-ranged p r h =
+    let g = ranged-parts r h in
+    parts-ranged (placedIn p (r .report)) (record { report = g .report; time = g .time; key = key-in-below p (r .report) })
+
+anew-ranged : (p : ℕ) (rs : List Record) → allRanged rs ≡ true → allRanged (map (λ r. placedIn p (r .report)) rs) ≡ true
+unfolding allRanged
+anew-ranged p [] h = refl
+anew-ranged p (a ∷ rs) h =
+    and-true (isRanged (placedIn p (a .report))) _
+    (placed-ranged p a (and-left (isRanged a) (allRanged rs) h))
+    (anew-ranged p rs (and-right (isRanged a) (allRanged rs) h))
 
 all-length : (ds rs : List Record) → length (insertedAll ds rs) ≡ length ds + length rs
 unfolding insertedAll
 all-length [] rs = omega arith
 all-length (d ∷ ds) rs = omega (arith, all-length ds (inserted d rs), inserted-length d rs)
 
-pub stepped-length : (c later : ℕ) (rs : List Record) → length (steppedRecords c later rs) ≡ length rs
-stepped-length c later rs = all-length (replaced c later rs) (kept c later rs) ∙ step-length c later rs
-
 all-ranged : (ds rs : List Record) → allRanged ds ≡ true → allRanged rs ≡ true → allRanged (insertedAll ds rs) ≡ true
 unfolding insertedAll allRanged
 all-ranged [] rs h k = k
 all-ranged (d ∷ ds) rs h k =
     all-ranged ds (inserted d rs) (and-right (isRanged d) (allRanged ds) h) (inserted-ranged d rs (and-left (isRanged d) (allRanged ds) h) k)
-
-step-ranged : (c later : ℕ) (rs : List Record) → allRanged rs ≡ true → (allRanged (replaced c later rs) ≡ true) × (allRanged (kept c later rs) ≡ true)
-unfolding kept replaced allRanged
-step-ranged c later [] h = (refl, refl)
-step-ranged c later (a ∷ rs) h = go (livesOn c later a) (step-ranged c later rs (and-right (isRanged a) (allRanged rs) h))
-  where
-    here : isRanged a ≡ true
-    here = and-left (isRanged a) (allRanged rs) h
-
-    go : (b : Bool) → (allRanged (replaced c later rs) ≡ true) × (allRanged (kept c later rs) ≡ true) → (allRanged (cond b (replaced c later rs) (placedIn later (a .report) ∷ replaced c later rs)) ≡ true) × (allRanged (cond b (a ∷ kept c later rs) (kept c later rs)) ≡ true)
-    go true i = (i .0, and-true (isRanged a) (allRanged (kept c later rs)) here (i .1))
-    go false i = (and-true (isRanged (placedIn later (a .report))) (allRanged (replaced c later rs)) (placed-ranged later a here) (i .0), i .1)
-
-pub stepped-ranged : (c later : ℕ) (rs : List Record) → allRanged rs ≡ true → allRanged (steppedRecords c later rs) ≡ true
-stepped-ranged c later rs h =
-    let k = step-ranged c later rs h in
-    all-ranged (replaced c later rs) (kept c later rs) (k .0) (k .1)
 
 -- ---- ids
 
@@ -196,6 +198,10 @@ or-assoc : (s t u : Bool) → (s || t) || u ≡ s || (t || u)
 or-assoc true t u = refl
 or-assoc false t u = refl
 
+or-both : (h m s : Bool) → (h || m) || (h || s) ≡ h || (m || s)
+or-both true m s = refl
+or-both false m s = refl
+
 not-none : (b : Bool) → not b ≡ true → b ≡ false
 not-none true h = absurd (true-false (sym h))
 not-none false h = refl
@@ -207,19 +213,6 @@ has-all id (d ∷ ds) rs =
     has-all id ds (inserted d rs)
     ∙ ap (λ (b : Bool). hasId id ds || b) (has-inserted id d rs)
     ∙ or-move (hasId id ds) (eqZ (d .report .id) id) (hasId id rs)
-
-has-step : (id : ℤ) (c later : ℕ) (rs : List Record) → hasId id (replaced c later rs) || hasId id (kept c later rs) ≡ hasId id rs
-unfolding kept replaced hasId
-has-step id c later [] = refl
-has-step id c later (a ∷ rs) = go (livesOn c later a) (has-step id c later rs)
-  where
-    go : (b : Bool) → hasId id (replaced c later rs) || hasId id (kept c later rs) ≡ hasId id rs → hasId id (cond b (replaced c later rs) (placedIn later (a .report) ∷ replaced c later rs)) || hasId id (cond b (a ∷ kept c later rs) (kept c later rs)) ≡ eqZ (a .report .id) id || hasId id rs
-    go true ih = or-swap (hasId id (replaced c later rs)) (eqZ (a .report .id) id) (hasId id (kept c later rs)) ∙ ap (λ (b : Bool). eqZ (a .report .id) id || b) ih
-    go false ih = or-assoc (eqZ (a .report .id) id) (hasId id (replaced c later rs)) (hasId id (kept c later rs)) ∙ ap (λ (b : Bool). eqZ (a .report .id) id || b) ih
-
--- a step keeps the ids
-pub has-stepped : (id : ℤ) (c later : ℕ) (rs : List Record) → hasId id (steppedRecords c later rs) ≡ hasId id rs
-has-stepped id c later rs = has-all id (replaced c later rs) (kept c later rs) ∙ has-step id c later rs
 
 pub inserted-distinct : (r : Record) (rs : List Record) → idsDistinct rs ≡ true → hasId (r .report .id) rs ≡ false → idsDistinct (inserted r rs) ≡ true
 unfolding inserted idsDistinct hasId
@@ -260,35 +253,193 @@ all-kept (d ∷ ds) ks a s i =
     let n = a .others d (inl refl) in
     all-kept ds (inserted d ks) (apart-next d ds ks a) (inserted-sorted d ks s n) (inserted-distinct d ks i n)
 
-step-apart : (c later : ℕ) (rs : List Record) → idsDistinct rs ≡ true → (Apart (replaced c later rs) (kept c later rs)) × (idsDistinct (kept c later rs) ≡ true)
-unfolding kept replaced idsDistinct hasId
-step-apart c later [] h = (record { distinct = refl; others = λ d m. absurd m }, refl)
-step-apart c later (a ∷ rs) h = go (livesOn c later a) (step-apart c later rs (and-right (not (hasId (a .report .id) rs)) (idsDistinct rs) h))
+passing-distinct : (test : Record → Bool) (rs : List Record) → idsDistinct rs ≡ true → idsDistinct (passing test rs) ≡ true
+unfolding passing idsDistinct
+passing-distinct test [] h = refl
+passing-distinct test (a ∷ rs) h = go (test a) (passing-distinct test rs (and-right (not (hasId (a .report .id) rs)) (idsDistinct rs) h))
   where
     alone : hasId (a .report .id) rs ≡ false
     alone = not-none (hasId (a .report .id) rs) (and-left (not (hasId (a .report .id) rs)) (idsDistinct rs) h)
 
-    both : (hasId (a .report .id) (replaced c later rs) ≡ false) × (hasId (a .report .id) (kept c later rs) ≡ false)
-    both = or-neither (hasId (a .report .id) (replaced c later rs)) (hasId (a .report .id) (kept c later rs)) (has-step (a .report .id) c later rs ∙ alone)
+    go : (b : Bool) → idsDistinct (passing test rs) ≡ true → idsDistinct (cond b (a ∷ passing test rs) (passing test rs)) ≡ true
+    go true i = and-true (not (hasId (a .report .id) (passing test rs))) (idsDistinct (passing test rs)) (ap not (has-passing test (a .report .id) rs alone)) i
+    go false i = i
 
-    go : (b : Bool) → (Apart (replaced c later rs) (kept c later rs)) × (idsDistinct (kept c later rs) ≡ true) → (Apart (cond b (replaced c later rs) (placedIn later (a .report) ∷ replaced c later rs)) (cond b (a ∷ kept c later rs) (kept c later rs))) × (idsDistinct (cond b (a ∷ kept c later rs) (kept c later rs)) ≡ true)
-    go true i = (
-      record {
-        distinct = i .0 .distinct;
-        others = λ d m. rw (same-comm (a .report .id) (d .report .id) ∙ no-id (a .report .id) (replaced c later rs) (both .0) d m, i .0 .others d m);
-      },
-      and-true (not (hasId (a .report .id) (kept c later rs))) (idsDistinct (kept c later rs)) (ap not (both .1)) (i .1),
-    )
-    go false i = (
-      record {
-        distinct = and-true (not (hasId (a .report .id) (replaced c later rs))) (idsDistinct (replaced c later rs)) (ap not (both .0)) (i .0 .distinct);
-        others = λ d m. ⊎-elim (λ q. ap (λ (x : Record). hasId (x .report .id) (kept c later rs)) q ∙ both .1) (λ n. i .0 .others d n) m;
-      },
-      i .1,
-    )
+anew-distinct : (p : ℕ) (rs : List Record) → idsDistinct rs ≡ true → idsDistinct (map (λ r. placedIn p (r .report)) rs) ≡ true
+unfolding idsDistinct
+anew-distinct p [] h = refl
+anew-distinct p (a ∷ rs) h =
+    and-true (not (hasId (a .report .id) (map (λ r. placedIn p (r .report)) rs))) _
+    (ap not (has-anew p (a .report .id) rs) ∙ and-left (not (hasId (a .report .id) rs)) (idsDistinct rs) h)
+    (anew-distinct p rs (and-right (not (hasId (a .report .id) rs)) (idsDistinct rs) h))
 
--- a step keeps the order, and ids distinct
-pub stepped-sorted : (c later : ℕ) (rs : List Record) → isSorted rs ≡ true → idsDistinct rs ≡ true → isSorted (steppedRecords c later rs) ≡ true
-stepped-sorted c later rs s h =
-    let a = step-apart c later rs h in
-    all-kept (replaced c later rs) (kept c later rs) (a .0) (kept-sorted c later rs s) (a .1) .0
+module _ (staying moving : Record → Bool) where
+  -- nobody both stays and moves
+  abbrev pub NotBoth : Type 0
+  NotBoth = (r : Record) → staying r && moving r ≡ false
+
+  -- everyone does one of the two: nobody leaves. Only that nobody comes or goes in a step rests on it
+  abbrev pub NoneLeaves : Type 0
+  NoneLeaves = (r : Record) → staying r || moving r ≡ true
+
+  step-few : NotBoth → (rs : List Record) → length (passing moving rs) + length (passing staying rs) ≤ length rs
+  unfolding passing
+  step-few n [] = omega arith
+  step-few n (a ∷ rs) = go (staying a) (moving a) (n a) (step-few n rs)
+    where
+      ms : List Record
+      ms = passing moving rs
+
+      ss : List Record
+      ss = passing staying rs
+
+      go : (s m : Bool) → s && m ≡ false → length ms + length ss ≤ length rs → length (cond m (a ∷ ms) ms) + length (cond s (a ∷ ss) ss) ≤ suc (length rs)
+      go true true e i = absurd (true-false e)
+      go true false e i = omega arith
+      go false true e i = omega arith
+      go false false e i = omega arith
+
+  step-whole : NoneLeaves → (rs : List Record) → length rs ≤ length (passing moving rs) + length (passing staying rs)
+  unfolding passing
+  step-whole n [] = omega arith
+  step-whole n (a ∷ rs) = go (staying a) (moving a) (n a) (step-whole n rs)
+    where
+      ms : List Record
+      ms = passing moving rs
+
+      ss : List Record
+      ss = passing staying rs
+
+      go : (s m : Bool) → s || m ≡ true → length rs ≤ length ms + length ss → suc (length rs) ≤ length (cond m (a ∷ ms) ms) + length (cond s (a ∷ ss) ss)
+      go true true e i = omega arith
+      go true false e i = omega arith
+      go false true e i = omega arith
+      go false false e i = absurd (true-false (sym e))
+
+  has-step : NoneLeaves → (id : ℤ) (rs : List Record) → hasId id (passing moving rs) || hasId id (passing staying rs) ≡ hasId id rs
+  unfolding passing hasId
+  has-step n id [] = refl
+  has-step n id (a ∷ rs) = go (staying a) (moving a) (n a) (has-step n id rs)
+    where
+      ms : List Record
+      ms = passing moving rs
+
+      ss : List Record
+      ss = passing staying rs
+
+      here : Bool
+      here = eqZ (a .report .id) id
+
+      go : (s m : Bool) → s || m ≡ true → hasId id ms || hasId id ss ≡ hasId id rs → hasId id (cond m (a ∷ ms) ms) || hasId id (cond s (a ∷ ss) ss) ≡ here || hasId id rs
+      go true true e i = or-both here (hasId id ms) (hasId id ss) ∙ ap (λ (b : Bool). here || b) i
+      go true false e i = or-swap (hasId id ms) here (hasId id ss) ∙ ap (λ (b : Bool). here || b) i
+      go false true e i = or-assoc here (hasId id ms) (hasId id ss) ∙ ap (λ (b : Bool). here || b) i
+      go false false e i = absurd (true-false (sym e))
+
+  -- one that moves is none of those that stay
+  abbrev StepApart : List Record → Type 0
+  StepApart rs = (d : Record) → Member d (passing moving rs) → hasId (d .report .id) (passing staying rs) ≡ false
+
+  step-apart : NotBoth → (rs : List Record) → idsDistinct rs ≡ true → StepApart rs
+  unfolding passing idsDistinct hasId
+  step-apart n [] h d m = refl
+  step-apart n (a ∷ rs) h d m = go (staying a) (moving a) (n a) (step-apart n rs (and-right (not (hasId (a .report .id) rs)) (idsDistinct rs) h)) m
+    where
+      id : ℤ
+      id = a .report .id
+
+      alone : hasId id rs ≡ false
+      alone = not-none (hasId id rs) (and-left (not (hasId id rs)) (idsDistinct rs) h)
+
+      other : Member d (passing moving rs) → eqZ id (d .report .id) ≡ false
+      other k = same-comm id (d .report .id) ∙ no-id id rs alone d (in-passing d moving rs k)
+
+      go : (s m : Bool) → s && m ≡ false → StepApart rs → Member d (cond m (a ∷ passing moving rs) (passing moving rs))
+          → hasId (d .report .id) (cond s (a ∷ passing staying rs) (passing staying rs)) ≡ false
+      go true true e i k = absurd (true-false e)
+      go true false e i k = rw (other k, i d k)
+      go false true e i k =
+          ⊎-elim (λ q. ap (λ (x : Record). hasId (x .report .id) (passing staying rs)) q ∙ has-passing staying id rs alone) (i d) k
+      go false false e i k = i d k
+
+module _ (p : ℕ) (staying moving : Record → Bool) where
+  -- no more than there were, and as many where nobody leaves
+  pub by-few : NotBoth staying moving → (rs : List Record) → length (replaced p moving rs) + length (passing staying rs) ≤ length rs
+  by-few n rs = let e = length-map (passing moving rs) (λ r. placedIn p (r .report)) in omega (arith, e, step-few staying moving n rs)
+
+  pub by-length : NotBoth staying moving → (rs : List Record) → length (steppedBy p staying moving rs) ≤ length rs
+  by-length n rs = omega (arith, all-length (replaced p moving rs) (passing staying rs), by-few n rs)
+
+  pub by-whole : NotBoth staying moving → NoneLeaves staying moving → (rs : List Record) → length (steppedBy p staying moving rs) ≡ length rs
+  by-whole n w rs =
+      let e = length-map (passing moving rs) (λ r. placedIn p (r .report)) in
+      omega (arith, e, all-length (replaced p moving rs) (passing staying rs), step-few staying moving n rs, step-whole staying moving w rs)
+
+  pub by-ranged : (rs : List Record) → allRanged rs ≡ true → allRanged (steppedBy p staying moving rs) ≡ true
+  by-ranged rs h =
+      all-ranged (replaced p moving rs) (passing staying rs)
+      (anew-ranged p (passing moving rs) (passing-ranged moving rs h))
+      (passing-ranged staying rs h)
+
+  -- where nobody leaves, a step keeps the ids
+  pub by-has : NoneLeaves staying moving → (id : ℤ) (rs : List Record) → hasId id (steppedBy p staying moving rs) ≡ hasId id rs
+  by-has n id rs =
+      has-all id (replaced p moving rs) (passing staying rs)
+      ∙ ap (λ (b : Bool). b || hasId id (passing staying rs)) (has-anew p id (passing moving rs))
+      ∙ has-step staying moving n id rs
+
+  -- a step keeps the order, and ids distinct
+  pub by-sorted : NotBoth staying moving → (rs : List Record) → isSorted rs ≡ true → idsDistinct rs ≡ true → isSorted (steppedBy p staying moving rs) ≡ true
+  by-sorted n rs s h =
+      all-kept (replaced p moving rs) (passing staying rs)
+      (record {
+        distinct = anew-distinct p (passing moving rs) (passing-distinct moving rs h);
+        others = λ d m.
+            let b = in-anew d p (passing moving rs) m in
+            ap (λ (x : Record). hasId (x .report .id) (passing staying rs)) (b .2) ∙ step-apart staying moving n rs h (b .0) (b .1);
+      })
+      (passing-sorted staying rs s)
+      (passing-distinct staying rs h)
+      .0
+
+-- ---- the clock step of a store's records
+
+module _ (now time : ℤ) where
+  not-both : NotBoth (stays now time) (moves now time)
+  not-both r = go (stays now time r)
+    where
+      go : (b : Bool) → b && not b ≡ false
+      go true = refl
+      go false = refl
+
+  -- today nobody leaves: a record stays or moves
+  none-leaves : NoneLeaves (stays now time) (moves now time)
+  none-leaves r = go (stays now time r)
+    where
+      go : (b : Bool) → b || not b ≡ true
+      go true = refl
+      go false = refl
+
+  pub halves-few : (rs : List Record) → length (replaced (phaseOf time) (moves now time) rs) + length (passing (stays now time) rs) ≤ length rs
+  halves-few = by-few (phaseOf time) (stays now time) (moves now time) not-both
+
+  pub stepped-few : (rs : List Record) → length (steppedRecords now time rs) ≤ length rs
+  unfolding steppedRecords
+  stepped-few = by-length (phaseOf time) (stays now time) (moves now time) not-both
+
+  pub stepped-ranged : (rs : List Record) → allRanged rs ≡ true → allRanged (steppedRecords now time rs) ≡ true
+  unfolding steppedRecords
+  stepped-ranged = by-ranged (phaseOf time) (stays now time) (moves now time)
+
+  pub stepped-sorted : (rs : List Record) → isSorted rs ≡ true → idsDistinct rs ≡ true → isSorted (steppedRecords now time rs) ≡ true
+  unfolding steppedRecords
+  stepped-sorted = by-sorted (phaseOf time) (stays now time) (moves now time) not-both
+
+  -- nobody comes or goes
+  pub stepped-length : (rs : List Record) → length (steppedRecords now time rs) ≡ length rs
+  unfolding steppedRecords
+  stepped-length = by-whole (phaseOf time) (stays now time) (moves now time) not-both none-leaves
+
+  pub has-stepped : (id : ℤ) (rs : List Record) → hasId id (steppedRecords now time rs) ≡ hasId id rs
+  unfolding steppedRecords
+  has-stepped = by-has (phaseOf time) (stays now time) (moves now time) none-leaves

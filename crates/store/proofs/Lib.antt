@@ -1,6 +1,6 @@
 pub mod ChangeLaws
 pub mod OrderLaws
 pub mod MergeLaws
-pub mod StepLaws
 pub mod KeepLaws
+pub mod StepLaws
 pub mod SpeedLaws

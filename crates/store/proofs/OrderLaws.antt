@@ -3,7 +3,7 @@
 -- Assumes nothing.
 use mathlib.Core.Path.{_≡_, refl, sym, ap, _∙_}
 use mathlib.Core.Bool.{Bool, true, false, cond, _&&_, _||_, not}
-use mathlib.Core.List.{List, [], _∷_, List·Memᴰ, List·Memᴰ·head, List·Memᴰ·tail, List·Memᴰ·cases-cons, List·Memᴰ·not-nil}
+use mathlib.Core.List.{List, [], _∷_, map, List·Memᴰ, List·Memᴰ·head, List·Memᴰ·tail, List·Memᴰ·cases-cons}
 use mathlib.Core.Logic.{_⊎_, inl, inr, ⊎-elim}
 use Prim.Native.Nat.{ℕ, suc}
 use native.Mathlib.Omega.{arith}
@@ -12,12 +12,14 @@ use lib.ListN.{length}
 use lib.Signed.{leZ, ltZ}
 use borrow.Author.Tests.{not-true}
 use Rattle.ints.specs.Whole.{eqZ}
+use Rattle.ints.specs.Lists.{passing}
 use Rattle.ints.proofs.Parts.{signed, true-false}
 use Rattle.ints.proofs.Truth.{and-true, and-left, and-right, or-right, or-neither, or-swap}
 use Rattle.ints.proofs.Same.{same-not, same-comm}
+use Rattle.ints.proofs.Members.{map-in, passing-in}
 use Rattle.records.specs.Order.{precedes, isSorted, hasId}
 use Rattle.records.specs.Soundness.{idsDistinct}
-use Rattle.store.specs.Changes.{inserted, insertedAll, removed, placedIn, livesOn, kept, replaced, steppedRecords}
+use Rattle.store.specs.Changes.{inserted, insertedAll, removed, placedIn, replaced}
 use Rattle.records.specs.declared.Record.{Record}
 
 -- ---- the order of two records
@@ -111,12 +113,6 @@ abbrev pub Ascending : List Record → Type 0
 Ascending [] = Unit {0}
 Ascending (r ∷ rs) = AllAfter r rs × Ascending rs
 
-pub ascending-sorted : (rs : List Record) → Ascending rs → isSorted rs ≡ true
-unfolding isSorted
-ascending-sorted [] o = refl
-ascending-sorted (a ∷ []) o = refl
-ascending-sorted (a ∷ b ∷ rs) o = and-true _ _ (o .0 .0) (ascending-sorted (b ∷ rs) (o .1))
-
 after-earlier : (r a : Record) (rs : List Record) → precedes r a ≡ true → AllAfter a rs → AllAfter r rs
 after-earlier r a [] h o = tt
 after-earlier r a (b ∷ rs) h o = (precedes-trans r a b h (o .0), after-earlier r a rs h (o .1))
@@ -151,7 +147,10 @@ unfolding inserted hasId
 has-inserted id r [] = refl
 has-inserted id r (a ∷ rs) = go (precedes r a) (has-inserted id r rs)
   where
-    go : (t : Bool) → hasId id (inserted r rs) ≡ eqZ (r .report .id) id || hasId id rs → hasId id (cond t (r ∷ a ∷ rs) (a ∷ inserted r rs)) ≡ eqZ (r .report .id) id || (eqZ (a .report .id) id || hasId id rs)
+    go :
+        (t : Bool)
+        → hasId id (inserted r rs) ≡ eqZ (r .report .id) id || hasId id rs
+        → hasId id (cond t (r ∷ a ∷ rs) (a ∷ inserted r rs)) ≡ eqZ (r .report .id) id || (eqZ (a .report .id) id || hasId id rs)
     go true e = refl
     go false e =
         ap (λ (x : Bool). eqZ (a .report .id) id || x) e ∙ or-swap (eqZ (a .report .id) id) (eqZ (r .report .id) id) (hasId id rs)
@@ -203,7 +202,14 @@ inserted-swap a b [] n = go (precedes a b) refl (precedes b a) refl
     go false e false f = absurd (true-false (sym (precedes-total a b n e) ∙ f))
 inserted-swap a b (c ∷ rs) n = go (precedes a c) refl (precedes b c) refl (inserted-swap a b rs n)
   where
-    front : (x y : Record) → eqZ (x .report .id) (y .report .id) ≡ false → precedes x c ≡ true → precedes y c ≡ true → (t : Bool) → precedes x y ≡ t → cond t (x ∷ y ∷ c ∷ rs) (y ∷ inserted x (c ∷ rs)) ≡ inserted y (x ∷ c ∷ rs)
+    front :
+        (x y : Record)
+        → eqZ (x .report .id) (y .report .id) ≡ false
+        → precedes x c ≡ true
+        → precedes y c ≡ true
+        → (t : Bool)
+        → precedes x y ≡ t
+        → cond t (x ∷ y ∷ c ∷ rs) (y ∷ inserted x (c ∷ rs)) ≡ inserted y (x ∷ c ∷ rs)
     front x y m p q true e = rw (precedes-asym x y e, q)
     front x y m p q false e = rw (precedes-total x y m e, p)
 
@@ -214,7 +220,13 @@ inserted-swap a b (c ∷ rs) n = go (precedes a c) refl (precedes b c) refl (ins
         go₂ true e = absurd (true-false (sym (precedes-trans x y c e q) ∙ p))
         go₂ false e = refl
 
-    go : (t : Bool) → precedes a c ≡ t → (u : Bool) → precedes b c ≡ u → inserted a (inserted b rs) ≡ inserted b (inserted a rs) → inserted a (cond u (b ∷ c ∷ rs) (c ∷ inserted b rs)) ≡ inserted b (cond t (a ∷ c ∷ rs) (c ∷ inserted a rs))
+    go :
+        (t : Bool)
+        → precedes a c ≡ t
+        → (u : Bool)
+        → precedes b c ≡ u
+        → inserted a (inserted b rs) ≡ inserted b (inserted a rs)
+        → inserted a (cond u (b ∷ c ∷ rs) (c ∷ inserted b rs)) ≡ inserted b (cond t (a ∷ c ∷ rs) (c ∷ inserted a rs))
     go true e true f k = front a b n e f (precedes a b) refl
     go true e false f k = rw (e, between b a f e, f)
     go false e true f k = rw (between a b e f, e, f)
@@ -278,7 +290,11 @@ removed-other id r (a ∷ rs) e o = go (precedes r a) refl (removed-other id r r
     later f true k = sym (inserted-front r rs (after-earlier r a rs f (o .0)))
     later f false k = rw f
 
-    apart : precedes r a ≡ false → removed id (inserted r rs) ≡ inserted r (removed id rs) → (t : Bool) → cond t (inserted r rs) (a ∷ removed id (inserted r rs)) ≡ inserted r (cond t rs (a ∷ removed id rs))
+    apart :
+        precedes r a ≡ false
+        → removed id (inserted r rs) ≡ inserted r (removed id rs)
+        → (t : Bool)
+        → cond t (inserted r rs) (a ∷ removed id (inserted r rs)) ≡ inserted r (cond t rs (a ∷ removed id rs))
     apart f k true = refl
     apart f k false = rw (f, k)
 
@@ -286,98 +302,110 @@ removed-other id r (a ∷ rs) e o = go (precedes r a) refl (removed-other id r r
     go true f k = rw e (later f (eqZ (a .report .id) id) refl)
     go false f k = apart f k (eqZ (a .report .id) id)
 
--- ---- the clock step
+-- ---- a step: who stays and who moves are any two tests
 
-module _ (c later : ℕ) where
-  after-kept : (r : Record) (rs : List Record) → AllAfter r rs → AllAfter r (kept c later rs)
-  unfolding kept
-  after-kept r [] o = tt
-  after-kept r (a ∷ rs) o = go (livesOn c later a) (after-kept r rs (o .1))
+module _ (test : Record → Bool) where
+  after-passing : (r : Record) (rs : List Record) → AllAfter r rs → AllAfter r (passing test rs)
+  unfolding passing
+  after-passing r [] o = tt
+  after-passing r (a ∷ rs) o = go (test a) (after-passing r rs (o .1))
     where
-      go : (t : Bool) → AllAfter r (kept c later rs) → AllAfter r (cond t (a ∷ kept c later rs) (kept c later rs))
+      go : (t : Bool) → AllAfter r (passing test rs) → AllAfter r (cond t (a ∷ passing test rs) (passing test rs))
       go true k = (o .0, k)
       go false k = k
 
-  -- a record that lives on
-  kept-one : (r : Record) (rs : List Record) → livesOn c later r ≡ true → Ascending rs → kept c later (inserted r rs) ≡ inserted r (kept c later rs)
-  unfolding kept inserted
-  kept-one r [] e o = rw e
-  kept-one r (a ∷ rs) e o = go (precedes r a) refl (kept-one r rs e (o .1))
+  -- a record more that passes
+  abbrev PassingOne : Record → List Record → Type 0
+  PassingOne r rs = passing test (inserted r rs) ≡ inserted r (passing test rs)
+
+  passing-one : (r : Record) (rs : List Record) → test r ≡ true → Ascending rs → PassingOne r rs
+  unfolding passing inserted
+  passing-one r [] e o = rw e
+  passing-one r (a ∷ rs) e o = go (precedes r a) refl (passing-one r rs e (o .1))
     where
-      apart : precedes r a ≡ false → kept c later (inserted r rs) ≡ inserted r (kept c later rs) → (t : Bool) → cond t (a ∷ kept c later (inserted r rs)) (kept c later (inserted r rs)) ≡ inserted r (cond t (a ∷ kept c later rs) (kept c later rs))
+      apart : precedes r a ≡ false → PassingOne r rs → (t : Bool)
+          → cond t (a ∷ passing test (inserted r rs)) (passing test (inserted r rs)) ≡ inserted r (cond t (a ∷ passing test rs) (passing test rs))
       apart f k true = rw (f, k)
       apart f k false = k
 
-      go : (t : Bool) → precedes r a ≡ t → kept c later (inserted r rs) ≡ inserted r (kept c later rs) → kept c later (cond t (r ∷ a ∷ rs) (a ∷ inserted r rs)) ≡ inserted r (kept c later (a ∷ rs))
-      go true f k = rw e (sym (inserted-front r (kept c later (a ∷ rs)) (after-kept r (a ∷ rs) (f, after-earlier r a rs f (o .0)))))
-      go false f k = apart f k (livesOn c later a)
+      go : (t : Bool) → precedes r a ≡ t → PassingOne r rs → passing test (cond t (r ∷ a ∷ rs) (a ∷ inserted r rs)) ≡ inserted r (passing test (a ∷ rs))
+      go true f k = rw e (sym (inserted-front r (passing test (a ∷ rs)) (after-passing r (a ∷ rs) (f, after-earlier r a rs f (o .0)))))
+      go false f k = apart f k (test a)
 
-  replaced-one : (r : Record) (rs : List Record) → livesOn c later r ≡ true → replaced c later (inserted r rs) ≡ replaced c later rs
-  unfolding replaced inserted
-  replaced-one r [] e = rw e
-  replaced-one r (a ∷ rs) e = go (precedes r a) (replaced-one r rs e)
+  -- one more that does not
+  passing-other : (r : Record) (rs : List Record) → test r ≡ false → passing test (inserted r rs) ≡ passing test rs
+  unfolding passing inserted
+  passing-other r [] e = rw e
+  passing-other r (a ∷ rs) e = go (precedes r a) (passing-other r rs e)
     where
-      go : (t : Bool) → replaced c later (inserted r rs) ≡ replaced c later rs → replaced c later (cond t (r ∷ a ∷ rs) (a ∷ inserted r rs)) ≡ replaced c later (a ∷ rs)
+      go : (t : Bool) → passing test (inserted r rs) ≡ passing test rs → passing test (cond t (r ∷ a ∷ rs) (a ∷ inserted r rs)) ≡ passing test (a ∷ rs)
       go true k = rw e
       go false k = rw k
 
-  -- a record of a dead phase
-  kept-none : (r : Record) (rs : List Record) → livesOn c later r ≡ false → kept c later (inserted r rs) ≡ kept c later rs
-  unfolding kept inserted
-  kept-none r [] e = rw e
-  kept-none r (a ∷ rs) e = go (precedes r a) (kept-none r rs e)
+  pub has-passing : (id : ℤ) (rs : List Record) → hasId id rs ≡ false → hasId id (passing test rs) ≡ false
+  unfolding hasId passing
+  has-passing id [] n = refl
+  has-passing id (a ∷ rs) n = go (test a) (has-passing id rs (rest-other id a rs n))
     where
-      go : (t : Bool) → kept c later (inserted r rs) ≡ kept c later rs → kept c later (cond t (r ∷ a ∷ rs) (a ∷ inserted r rs)) ≡ kept c later (a ∷ rs)
-      go true k = rw e
-      go false k = rw k
+      go : (t : Bool) → hasId id (passing test rs) ≡ false → hasId id (cond t (a ∷ passing test rs) (passing test rs)) ≡ false
+      go true k = rw (first-id id a rs n, k)
+      go false k = k
 
-  pub replaced-from : {x : Record} (rs : List Record) → List·Memᴰ x (replaced c later rs) → (r : Record) × List·Memᴰ r rs × (x ≡ placedIn later (r .report))
-  unfolding replaced
-  replaced-from [] m = absurd (List·Memᴰ·not-nil m)
-  replaced-from {x} (a ∷ rs) m = go (livesOn c later a) (replaced-from rs) m
-    where
-      first : x ≡ placedIn later (a .report) → (r : Record) × List·Memᴰ r (a ∷ rs) × (x ≡ placedIn later (r .report))
-      first e = (a, List·Memᴰ·head refl, e)
+-- placed anew, a record has the id that it had
+pub has-anew : (p : ℕ) (id : ℤ) (rs : List Record) → hasId id (map (λ r. placedIn p (r .report)) rs) ≡ hasId id rs
+unfolding hasId
+has-anew p id [] = refl
+has-anew p id (a ∷ rs) = ap (λ (b : Bool). eqZ (a .report .id) id || b) (has-anew p id rs)
 
-      more : (r : Record) × List·Memᴰ r rs × (x ≡ placedIn later (r .report)) → (r : Record) × List·Memᴰ r (a ∷ rs) × (x ≡ placedIn later (r .report))
-      more t = (t .0, List·Memᴰ·tail (t .1), t .2)
+module _ (p : ℕ) (moving : Record → Bool) where
+  pub replaced-from : {x : Record} (rs : List Record) → List·Memᴰ x (replaced p moving rs) → (r : Record) × List·Memᴰ r rs × (x ≡ placedIn p (r .report))
+  replaced-from rs m =
+      let a = map-in (λ r. placedIn p (r .report)) (passing moving rs) m in
+      (a .0, passing-in moving rs (a .1) .0, a .2)
 
-      go : (t : Bool) → (List·Memᴰ x (replaced c later rs) → (r : Record) × List·Memᴰ r rs × (x ≡ placedIn later (r .report))) → List·Memᴰ x (cond t (replaced c later rs) (placedIn later (a .report) ∷ replaced c later rs)) → (r : Record) × List·Memᴰ r (a ∷ rs) × (x ≡ placedIn later (r .report))
-      go true f k = more (f k)
-      go false f k = ⊎-elim first (λ n. more (f n)) (List·Memᴰ·cases-cons k)
+  pub has-replaced : (id : ℤ) (rs : List Record) → hasId id rs ≡ false → hasId id (replaced p moving rs) ≡ false
+  has-replaced id rs n = has-anew p id (passing moving rs) ∙ has-passing moving id rs n
 
-  pub has-replaced : (id : ℤ) (rs : List Record) → hasId id rs ≡ false → hasId id (replaced c later rs) ≡ false
-  unfolding hasId replaced
-  has-replaced id [] n = refl
-  has-replaced id (a ∷ rs) n = go (livesOn c later a) (has-replaced id rs (rest-other id a rs n))
-    where
-      go : (t : Bool) → hasId id (replaced c later rs) ≡ false → hasId id (cond t (replaced c later rs) (placedIn later (a .report) ∷ replaced c later rs)) ≡ false
-      go true k = k
-      go false k = rw (first-id id a rs n, k)
+  -- a record more that moves
+  abbrev ReplacedOne : Record → List Record → List Record → Type 0
+  ReplacedOne r more into =
+      insertedAll (replaced p moving (inserted r more)) into ≡ inserted (placedIn p (r .report)) (insertedAll (replaced p moving more) into)
 
-  replaced-none : (r : Record) (rs into : List Record) → livesOn c later r ≡ false → hasId (r .report .id) rs ≡ false → insertedAll (replaced c later (inserted r rs)) into ≡ inserted (placedIn later (r .report)) (insertedAll (replaced c later rs) into)
-  unfolding replaced inserted insertedAll
-  replaced-none r [] into e n = rw e
-  replaced-none r (a ∷ rs) into e n = go (precedes r a) (λ l. replaced-none r rs l e (rest-other (r .report .id) a rs n))
+  replaced-one : (r : Record) (rs into : List Record) → moving r ≡ true → hasId (r .report .id) rs ≡ false → ReplacedOne r rs into
+  unfolding passing inserted insertedAll
+  replaced-one r [] into e n = rw e
+  replaced-one r (a ∷ rs) into e n = go (precedes r a) (λ l. replaced-one r rs l e (rest-other (r .report .id) a rs n))
     where
       new : Record
-      new = placedIn later (r .report)
+      new = placedIn p (r .report)
 
-      apart : ((l : List Record) → insertedAll (replaced c later (inserted r rs)) l ≡ inserted new (insertedAll (replaced c later rs) l)) → (t : Bool) → insertedAll (cond t (replaced c later (inserted r rs)) (placedIn later (a .report) ∷ replaced c later (inserted r rs))) into ≡ inserted new (insertedAll (cond t (replaced c later rs) (placedIn later (a .report) ∷ replaced c later rs)) into)
-      apart k true = k into
-      apart k false = k (inserted (placedIn later (a .report)) into)
+      put : Bool → List Record → List Record
+      put t more = insertedAll (map (λ x. placedIn p (x .report)) (cond t (a ∷ passing moving more) (passing moving more))) into
 
-      go : (t : Bool) → ((l : List Record) → insertedAll (replaced c later (inserted r rs)) l ≡ inserted new (insertedAll (replaced c later rs) l)) → insertedAll (replaced c later (cond t (r ∷ a ∷ rs) (a ∷ inserted r rs))) into ≡ inserted new (insertedAll (replaced c later (a ∷ rs)) into)
-      go true k = rw e (inserted-all-swap new (replaced c later (a ∷ rs)) into (has-replaced (r .report .id) (a ∷ rs) n))
-      go false k = apart k (livesOn c later a)
+      apart : ((l : List Record) → ReplacedOne r rs l) → (t : Bool) → put t (inserted r rs) ≡ inserted new (put t rs)
+      apart k true = k (inserted (placedIn p (a .report)) into)
+      apart k false = k into
 
-  -- the step of a list and one record more
-  pub stepped-kept : (r : Record) (rs : List Record) → livesOn c later r ≡ true → hasId (r .report .id) rs ≡ false → Ascending rs → steppedRecords c later (inserted r rs) ≡ inserted r (steppedRecords c later rs)
-  stepped-kept r rs e n o =
-      ap (λ (l : List Record). insertedAll l (kept c later (inserted r rs))) (replaced-one r rs e)
-      ∙ ap (insertedAll (replaced c later rs)) (kept-one r rs e o)
-      ∙ inserted-all-swap r (replaced c later rs) (kept c later rs) (has-replaced (r .report .id) rs n)
+      go : (t : Bool) → ((l : List Record) → ReplacedOne r rs l)
+          → insertedAll (replaced p moving (cond t (r ∷ a ∷ rs) (a ∷ inserted r rs))) into ≡ inserted new (insertedAll (replaced p moving (a ∷ rs)) into)
+      go true k = rw e (inserted-all-swap new (replaced p moving (a ∷ rs)) into (has-replaced (r .report .id) (a ∷ rs) n))
+      go false k = apart k (moving a)
 
-  pub stepped-replaced : (r : Record) (rs : List Record) → livesOn c later r ≡ false → hasId (r .report .id) rs ≡ false → steppedRecords c later (inserted r rs) ≡ inserted (placedIn later (r .report)) (steppedRecords c later rs)
-  stepped-replaced r rs e n =
-      ap (insertedAll (replaced c later (inserted r rs))) (kept-none r rs e) ∙ replaced-none r rs (kept c later rs) e n
+module _ (p : ℕ) (staying moving : Record → Bool) where
+  -- those that stay, and among them those that move, placed in phase p
+  abbrev pub steppedBy : List Record → List Record
+  steppedBy rs = insertedAll (replaced p moving rs) (passing staying rs)
+
+  -- the step of a list and one record more, which stays or moves
+  pub stepped-kept : (r : Record) (rs : List Record) → staying r ≡ true → moving r ≡ false → hasId (r .report .id) rs ≡ false → Ascending rs
+      → steppedBy (inserted r rs) ≡ inserted r (steppedBy rs)
+  stepped-kept r rs e f n o =
+      ap (λ (l : List Record). insertedAll (map (λ x. placedIn p (x .report)) l) (passing staying (inserted r rs))) (passing-other moving r rs f)
+      ∙ ap (insertedAll (replaced p moving rs)) (passing-one staying r rs e o)
+      ∙ inserted-all-swap r (replaced p moving rs) (passing staying rs) (has-replaced p moving (r .report .id) rs n)
+
+  pub stepped-replaced : (r : Record) (rs : List Record) → staying r ≡ false → moving r ≡ true → hasId (r .report .id) rs ≡ false
+      → steppedBy (inserted r rs) ≡ inserted (placedIn p (r .report)) (steppedBy rs)
+  stepped-replaced r rs e f n =
+      ap (insertedAll (replaced p moving (inserted r rs))) (passing-other staying r rs e)
+      ∙ replaced-one p moving r rs (passing staying rs) f n

@@ -3,7 +3,7 @@
 -- Assumes nothing.
 use mathlib.Core.Path.{_≡_, refl, sym, ap, _∙_}
 use mathlib.Core.Bool.{Bool, true, false, cond, _&&_}
-use mathlib.Core.List.{List, [], _∷_, List·Memᴰ, List·Memᴰ·head, List·Memᴰ·tail}
+use mathlib.Core.List.{List, [], _∷_, map, List·Memᴰ, List·Memᴰ·head, List·Memᴰ·tail}
 use mathlib.Core.Logic.{_⊎_, inl, inr, _≢_}
 use Prim.Native.Nat.{ℕ, _≤_, _<_}
 use native.Mathlib.Omega.{arith}
@@ -11,6 +11,7 @@ use lib.Dec.{eqb}
 use lib.IntN.{ℤ, natAbs}
 use lib.ListN.{length}
 use borrow.Author.Tests.{eqb-true, eqb-false, ne-eqb}
+use Rattle.ints.specs.Lists.{passing}
 use Rattle.ints.proofs.Truth.{and-left, and-right}
 use Rattle.grid.specs.Units.{cells}
 use Rattle.rows.specs.Phases.{slots, slotOf}
@@ -19,8 +20,8 @@ use Rattle.rows.specs.Table.{tableWords, rowAt, withSpeed}
 use Rattle.rows.specs.declared.Row.{Row}
 use Rattle.rows.proofs.RowLaws.{joined-comm, joined-assoc, joined-empty-right, widened-valid}
 use Rattle.rows.proofs.TableLaws.{row-written, row-other, length-with-row}
-use Rattle.records.specs.Order.{slotOfKey, numberOfKey, precedes}
-use Rattle.store.specs.Changes.{inserted, placedIn, livesOn, replaced, withSpeeds}
+use Rattle.records.specs.Order.{keyIn, slotOfKey, numberOfKey, precedes}
+use Rattle.store.specs.Changes.{inserted, placedIn, replaced, withSpeeds}
 use Rattle.records.specs.declared.Record.{Record}
 use Rattle.records.proofs.SoundLawsKeys.{slot-of-key-in}
 
@@ -86,7 +87,13 @@ module _ (t : List ℤ) (r : Record) (slot number : ℕ) (sized : length t ≡ t
 
 -- ---- some records
 
-pub row-with-speeds : (t : List ℤ) (rs : List Record) (slot number : ℕ) → length t ≡ tableWords → ((r : Record) → List·Memᴰ r rs → Placeable r) → number < cells → validRow (rowAt t slot number) ≡ true → rowAt (withSpeeds t rs) slot number ≡ joined (rowAt t slot number) (boundsOf (speedsAt slot number rs))
+pub row-with-speeds :
+    (t : List ℤ) (rs : List Record) (slot number : ℕ)
+    → length t ≡ tableWords
+    → ((r : Record) → List·Memᴰ r rs → Placeable r)
+    → number < cells
+    → validRow (rowAt t slot number) ≡ true
+    → rowAt (withSpeeds t rs) slot number ≡ joined (rowAt t slot number) (boundsOf (speedsAt slot number rs))
 unfolding withSpeeds speedsAt boundsOf after-one
 row-with-speeds t [] slot number sized each h v = sym (joined-empty-right (rowAt t slot number) v)
 row-with-speeds t (r ∷ rs) slot number sized each h v =
@@ -103,7 +110,10 @@ row-with-speeds t (r ∷ rs) slot number sized each h v =
     rest : List Row
     rest = speedsAt slot number rs
 
-    go : (b : Bool) → liesAt slot number r ≡ b → joined (rowAt (after-one t r slot number sized p h) slot number) (boundsOf rest) ≡ joined (rowAt t slot number) (boundsOf (cond b (speedOf r ∷ rest) rest))
+    go :
+        (b : Bool)
+        → liesAt slot number r ≡ b
+        → joined (rowAt (after-one t r slot number sized p h) slot number) (boundsOf rest) ≡ joined (rowAt t slot number) (boundsOf (cond b (speedOf r ∷ rest) rest))
     go true e =
         ap (λ (x : Row). joined x (boundsOf rest)) (row-after t r slot number sized p h true e)
         ∙ joined-assoc (rowAt t slot number) (speedOf r) (boundsOf rest)
@@ -111,44 +121,53 @@ row-with-speeds t (r ∷ rs) slot number sized each h v =
 
 -- ---- the records that a clock step places anew
 
-module _ (c later slot number : ℕ) where
+module _ (p : ℕ) (moving : Record → Bool) (slot number : ℕ) where
   -- the bounds of their speeds in a row
   abbrev pub newBounds : List Record → Row
-  newBounds rs = boundsOf (speedsAt slot number (replaced c later rs))
+  newBounds rs = boundsOf (speedsAt slot number (replaced p moving rs))
 
   -- with one record more
   abbrev pub withOne : Record → Row → Row
   withOne r row =
-      cond (livesOn c later r) row (cond (liesAt slot number (placedIn later (r .report))) (joined (rowOfSpeed (r .report .vx) (r .report .vy)) row) row)
+      cond (moving r) (cond (liesAt slot number (placedIn p (r .report))) (joined (rowOfSpeed (r .report .vx) (r .report .vy)) row) row) row
 
   pub bounds-first : (r : Record) (rs : List Record) → newBounds (r ∷ rs) ≡ withOne r (newBounds rs)
-  unfolding speedsAt replaced boundsOf
-  bounds-first r rs = go (livesOn c later r) (liesAt slot number (placedIn later (r .report)))
+  unfolding speedsAt passing boundsOf
+  bounds-first r rs = go (moving r)
     where
       new : Record
-      new = placedIn later (r .report)
+      new = placedIn p (r .report)
 
-      inner : (b : Bool) → boundsOf (cond b (speedOf new ∷ speedsAt slot number (replaced c later rs)) (speedsAt slot number (replaced c later rs))) ≡ cond b (joined (speedOf new) (newBounds rs)) (newBounds rs)
+      rest : List Row
+      rest = speedsAt slot number (replaced p moving rs)
+
+      inner : (b : Bool) → boundsOf (cond b (speedOf new ∷ rest) rest) ≡ cond b (joined (speedOf new) (boundsOf rest)) (boundsOf rest)
       inner true = refl
       inner false = refl
 
-      go : (a b : Bool) → boundsOf (speedsAt slot number (cond a (replaced c later rs) (new ∷ replaced c later rs))) ≡ cond a (newBounds rs) (cond (liesAt slot number new) (joined (speedOf r) (newBounds rs)) (newBounds rs))
-      go true b = refl
-      go false b = inner (liesAt slot number new)
+      anew : Bool → List Record
+      anew a = map (λ x. placedIn p (x .report)) (cond a (r ∷ passing moving rs) (passing moving rs))
+
+      go : (a : Bool) → boundsOf (speedsAt slot number (anew a)) ≡ cond a (cond (liesAt slot number new) (joined (speedOf r) (newBounds rs)) (newBounds rs)) (newBounds rs)
+      go true = inner (liesAt slot number new)
+      go false = refl
 
   with-swap : (r a : Record) (row : Row) → withOne r (withOne a row) ≡ withOne a (withOne r row)
   with-swap r a row =
-      go (livesOn c later r) (livesOn c later a) (liesAt slot number (placedIn later (r .report))) (liesAt slot number (placedIn later (a .report)))
+      go (moving r) (moving a) (liesAt slot number (placedIn p (r .report))) (liesAt slot number (placedIn p (a .report)))
     where
-      go : (u v m n : Bool) → cond u (cond v row (cond n (joined (speedOf a) row) row)) (cond m (joined (speedOf r) (cond v row (cond n (joined (speedOf a) row) row))) (cond v row (cond n (joined (speedOf a) row) row))) ≡ cond v (cond u row (cond m (joined (speedOf r) row) row)) (cond n (joined (speedOf a) (cond u row (cond m (joined (speedOf r) row) row))) (cond u row (cond m (joined (speedOf r) row) row)))
-      go true v m n = refl
-      go false true m n = refl
-      go false false true true =
+      one : Record → Bool → Bool → Row → Row
+      one x moved lies to = cond moved (cond lies (joined (speedOf x) to) to) to
+
+      go : (u v m n : Bool) → one r u m (one a v n row) ≡ one a v n (one r u m row)
+      go true true true true =
           sym (joined-assoc (speedOf r) (speedOf a) row)
           ∙ ap (λ (x : Row). joined x row) (joined-comm (speedOf r) (speedOf a))
           ∙ joined-assoc (speedOf a) (speedOf r) row
-      go false false true false = refl
-      go false false false n = refl
+      go true true true false = refl
+      go true true false n = refl
+      go true false m n = refl
+      go false v m n = refl
 
   -- wherever the record is put in
   pub bounds-inserted : (r : Record) (rs : List Record) → newBounds (inserted r rs) ≡ withOne r (newBounds rs)
@@ -165,17 +184,13 @@ module _ (c later slot number : ℕ) where
           ∙ ap (withOne r) (sym (bounds-first a rs))
 
   -- none of them lies in another slot
-  pub none-elsewhere : (rs : List Record) → slotOf later ≢ slot → speedsAt slot number (replaced c later rs) ≡ []
-  unfolding speedsAt replaced
-  none-elsewhere [] n = refl
-  none-elsewhere (r ∷ rs) n = go (livesOn c later r) (none-elsewhere rs n)
+  pub none-elsewhere : (rs : List Record) → slotOf p ≢ slot → speedsAt slot number (replaced p moving rs) ≡ []
+  unfolding speedsAt
+  none-elsewhere rs n = go (passing moving rs)
     where
-      new : Record
-      new = placedIn later (r .report)
+      far : (r : Record) → eqb (slotOfKey (keyIn p (r .report))) slot ≡ false
+      far r = ne-eqb (slotOfKey (keyIn p (r .report))) slot (λ e. n (sym (slot-of-key-in p (r .report)) ∙ e))
 
-      far : eqb (slotOfKey (new .key)) slot ≡ false
-      far = ne-eqb (slotOfKey (new .key)) slot (λ e. n (sym (slot-of-key-in later (r .report)) ∙ e))
-
-      go : (a : Bool) → speedsAt slot number (replaced c later rs) ≡ [] → speedsAt slot number (cond a (replaced c later rs) (new ∷ replaced c later rs)) ≡ []
-      go true k = k
-      go false k = rw (far, k)
+      go : (ms : List Record) → speedsAt slot number (map (λ r. placedIn p (r .report)) ms) ≡ []
+      go [] = refl
+      go (r ∷ ms) = rw (far r) (go ms)

@@ -1,30 +1,47 @@
--- The laws of a step of the current phase: the records that do not live on taken out in one pass, and their rows widened.
+-- The laws of a clock step of the words: the records that move taken out in one pass, and their rows widened.
 -- Assumes nothing.
-use mathlib.Core.Path.{_≡_, refl, sym, ap, _∙_}
-use mathlib.Core.Bool.{Bool, true, false, cond}
-use mathlib.Core.List.{List, [], _∷_, _++_, append-assoc, append-nil}
+use mathlib.Core.Path.{_≡_, refl, sym, ap, ap₂, _∙_}
+use mathlib.Core.Bool.{Bool, true, false}
+use mathlib.Core.List.{List, [], _∷_, _++_, map, append-assoc, append-nil}
 use Prim.Native.Nat.{ℕ, _+_, _-_, _*_, _≤_, _<_}
 use native.Mathlib.Omega.{arith}
 use lib.IntN.{ℤ, pos}
 use lib.ListN.{length, set, take, drop, replicate, length-append, length-take, length-drop, length-set, replicate-append-replicate}
 use lib.Seq.{drop-drop, take-at, drop-at, take-add, take-all, length-take-le}
+use Rattle.ints.specs.Lists.{passing}
 use Rattle.ints.proofs.Truth.{and-true, and-left, and-right}
+use Rattle.ints.proofs.Members.{map-append, passing-append}
 use Rattle.grid.specs.Units.{capacity}
+use Rattle.rows.specs.Phases.{phaseOf, isLive}
 use Rattle.rows.specs.Table.{tableWords, withRow, withSpeed}
 use Rattle.records.specs.Records.{recordWords, storeWords, recordFrom, nowOf, heldOf, readRecords, recordsOf, wordsOf, wordsOfAll, header, storeOf}
-use Rattle.records.specs.Order.{slotOfKey, numberOfKey}
+use Rattle.records.specs.Order.{slotOfKey, numberOfKey, phaseOfKey}
 use Rattle.records.specs.Soundness.{isRanged, allRanged, IsStore}
-use Rattle.store.specs.Changes.{insertedAll, placedIn, livesOn, kept, replaced, steppedRecords, withSpeeds}
+use Rattle.store.specs.Changes.{insertedAll, placedIn, stays, moves, replaced, steppedRecords, withSpeeds}
 use Rattle.records.specs.Places.{HasWords}
-use Rattle.store.specs.Walks.{KeptFirst, Taken, PlaceAsked}
+use Rattle.store.specs.Walks.{IsStep, KeptFirst, Taken, PlaceAsked}
 use Rattle.records.specs.declared.Record.{Record}
+use Rattle.store.specs.declared.changes.Step.{Step}
 use Rattle.records.proofs.RecordLaws.{words-length, read-back, now-of-store, records-of-store, read-length, held-records, written-read}
-use Rattle.records.proofs.SoundLawsRanges.{ranged-parts, parts-ranged}
-use Rattle.records.proofs.SoundLawsKeys.{key-in-below}
+use Rattle.records.proofs.SoundLawsRanges.{last-phase}
 use Rattle.records.proofs.PlaceLaws.{record-at, store-room}
 use Rattle.store.proofs.ChangeLaws.{left-at, words-append}
 use Rattle.store.proofs.MergeLaws.{no-records}
+use Rattle.store.proofs.KeepLaws.{placed-ranged, halves-few}
 use Rattle.records.proofs.PlaceLaws.{read-later, rest-at}
+
+-- ---- the phases of a step are those of a time
+
+pub from-small : (step : Step) → IsStep step → step .from ≤ 277777
+from-small step i = omega (arith, i .from-is, last-phase (step .now) (i .is-now))
+
+pub to-small : (step : Step) → IsStep step → step .to ≤ 277777
+to-small step i = omega (arith, i .to-is, last-phase (step .time) (i .is-time))
+
+pub stays-is : (step : Step) → IsStep step → (r : Record) → isLive (step .to) (phaseOfKey (step .from) (r .key)) ≡ stays (step .now) (step .time) r
+stays-is step i r = ap₂ (λ (p c : ℕ). isLive p (phaseOfKey c (r .key))) (i .to-is) (i .from-is)
+
+-- ---- records read from a store
 
 -- the records from record i on
 pub drop-record : (s : List ℤ) (i : ℕ) → i < heldOf s → drop i (recordsOf s) ≡ recordFrom s (recordWords * i + recordWords) ∷ drop (i + 1) (recordsOf s)
@@ -60,13 +77,12 @@ ranged-append [] ys h k = k
 ranged-append (x ∷ xs) ys h k =
     and-true (isRanged x) (allRanged (xs ++ ys)) (and-left (isRanged x) (allRanged xs) h) (ranged-append xs ys (and-right (isRanged x) (allRanged xs) h) k)
 
-pub placed-ranged : (later : ℕ) (r : Record) → isRanged r ≡ true → isRanged (placedIn later (r .report)) ≡ true
-placed-ranged later r h =
-    let p = ranged-parts r h in
-    parts-ranged (placedIn later (r .report)) (record { report = p .report; time = p .time; key = key-in-below later (r .report) })
-
 -- one more record written after m records
-read-next : (m : ℕ) (w w′ : List ℤ) (a : Record) → recordWords * m + recordWords ≤ length w → w′ ≡ take (recordWords * m) w ++ (wordsOf a ++ drop (recordWords * m + recordWords) w) → readRecords (m + 1) w′ ≡ readRecords m w ++ (a ∷ [])
+read-next :
+    (m : ℕ) (w w′ : List ℤ) (a : Record)
+    → recordWords * m + recordWords ≤ length w
+    → w′ ≡ take (recordWords * m) w ++ (wordsOf a ++ drop (recordWords * m + recordWords) w)
+    → readRecords (m + 1) w′ ≡ readRecords m w ++ (a ∷ [])
 unfolding wordsOfAll
 read-next m w w′ a h e =
     let rs = readRecords m w in
@@ -85,42 +101,25 @@ read-next m w w′ a h e =
 
 -- ---- the gaps closed in one pass
 
-kept-append : (c later : ℕ) (xs ys : List Record) → kept c later (xs ++ ys) ≡ kept c later xs ++ kept c later ys
-unfolding kept
-kept-append c later [] ys = refl
-kept-append c later (x ∷ xs) ys = go (livesOn c later x) (kept-append c later xs ys)
-  where
-    go : (b : Bool) → kept c later (xs ++ ys) ≡ kept c later xs ++ kept c later ys → cond b (x ∷ kept c later (xs ++ ys)) (kept c later (xs ++ ys)) ≡ cond b (x ∷ kept c later xs) (kept c later xs) ++ kept c later ys
-    go true h = ap (λ (l : List Record). x ∷ l) h
-    go false h = h
-
-replaced-append : (c later : ℕ) (xs ys : List Record) → replaced c later (xs ++ ys) ≡ replaced c later xs ++ replaced c later ys
-unfolding replaced
-replaced-append c later [] ys = refl
-replaced-append c later (x ∷ xs) ys = go (livesOn c later x) (replaced-append c later xs ys)
-  where
-    go : (b : Bool) → replaced c later (xs ++ ys) ≡ replaced c later xs ++ replaced c later ys → cond b (replaced c later (xs ++ ys)) (placedIn later (x .report) ∷ replaced c later (xs ++ ys)) ≡ cond b (replaced c later xs) (placedIn later (x .report) ∷ replaced c later xs) ++ replaced c later ys
-    go true h = h
-    go false h = ap (λ (l : List Record). placedIn later (x .report) ∷ l) h
-
 -- after i records, k of them kept: these stand first, and from record i on the words are those at entry
-pub record Pass (s₀ : List ℤ) (c later n : ℕ) (s dead : List ℤ) (k i : ℕ) : Type 0 where
+pub record Pass (s₀ : List ℤ) (to : ℕ) (staying moving : Record → Bool) (n : ℕ) (s dead : List ℤ) (k i : ℕ) : Type 0 where
   pub held : n ≡ heldOf s₀
   pub few : n ≤ capacity
   pub long : length s ≡ storeWords
   pub inside : i ≤ n
   pub closer : k ≤ i
-  pub count : length (kept c later (take i (recordsOf s₀))) ≡ k
-  pub first : take (recordWords * k + recordWords) s ≡ take recordWords s₀ ++ wordsOfAll (kept c later (take i (recordsOf s₀)))
+  pub count : length (passing staying (take i (recordsOf s₀))) ≡ k
+  pub first : take (recordWords * k + recordWords) s ≡ take recordWords s₀ ++ wordsOfAll (passing staying (take i (recordsOf s₀)))
   pub rest : drop (recordWords * i + recordWords) s ≡ drop (recordWords * i + recordWords) s₀
   pub ranged : allRanged (drop i (recordsOf s₀)) ≡ true
   pub long-dead : length dead ≡ 7168
-  pub dead-are : readRecords (i - k) dead ≡ replaced c later (take i (recordsOf s₀))
+  pub dead-are : readRecords (i - k) dead ≡ replaced to moving (take i (recordsOf s₀))
   pub dead-ranged : allRanged (readRecords (i - k) dead) ≡ true
 
-pub pass-start : (s dead : List ℤ) (c later n : ℕ) → IsStore s → n ≡ heldOf s → length dead ≡ 7168 → Pass s c later n s dead 0 0
-unfolding readRecords allRanged kept replaced wordsOfAll
-pass-start s dead c later n q e l =
+pub pass-start : (s dead : List ℤ) (to : ℕ) (staying moving : Record → Bool) (n : ℕ) → IsStore s → n ≡ heldOf s → length dead ≡ 7168
+    → Pass s to staying moving n s dead 0 0
+unfolding readRecords allRanged passing wordsOfAll
+pass-start s dead to staying moving n q e l =
     let room = store-room s q in
     let f = room .few in
     record {
@@ -138,7 +137,8 @@ pass-start s dead c later n q e l =
       dead-ranged = refl;
     }
 
-module _ (s₀ : List ℤ) (c later n : ℕ) (s dead : List ℤ) (k i : ℕ) (p : Pass s₀ c later n s dead k i) (h : i < n) (r : Record) (er : r ≡ recordFrom s (recordWords * i + recordWords)) where
+module _ (s₀ : List ℤ) (to : ℕ) (staying moving : Record → Bool) (n : ℕ) (s dead : List ℤ) (k i : ℕ) (p : Pass s₀ to staying moving n s dead k i) (h : i < n)
+    (r : Record) (er : r ≡ recordFrom s (recordWords * i + recordWords)) where
   at-entry : r ≡ recordFrom s₀ (recordWords * i + recordWords)
   at-entry =
       let j = recordWords * i + recordWords in
@@ -165,92 +165,121 @@ module _ (s₀ : List ℤ) (c later n : ℕ) (s dead : List ℤ) (k i : ℕ) (p 
       and-right (isRanged r) (allRanged (drop (i + 1) (recordsOf s₀))) x
 
   -- words that are those at entry from record i on are so from the next record on
-  later-words : (w : List ℤ) → drop (recordWords * i + recordWords) w ≡ drop (recordWords * i + recordWords) s₀ → drop (recordWords * (i + 1) + recordWords) w ≡ drop (recordWords * (i + 1) + recordWords) s₀
+  later-words :
+      (w : List ℤ)
+      → drop (recordWords * i + recordWords) w ≡ drop (recordWords * i + recordWords) s₀
+      → drop (recordWords * (i + 1) + recordWords) w ≡ drop (recordWords * (i + 1) + recordWords) s₀
   later-words w e =
       let j = recordWords * i + recordWords in
       let a : recordWords * (i + 1) + recordWords ≡ j + recordWords = omega arith in
       ap (λ (x : ℕ). drop x w) a ∙ sym (drop-drop recordWords j w) ∙ ap (drop recordWords) e ∙ drop-drop recordWords j s₀ ∙ ap (λ (x : ℕ). drop x s₀) (sym a)
 
-  module _ (x : Bool) (ex : x ≡ livesOn c later r) where
-    pub pass-live : x ≡ true → (s′ : List ℤ) → s′ ≡ take (recordWords * k + recordWords) s ++ (wordsOf r ++ drop (recordWords * k + recordWords + recordWords) s) → Pass s₀ c later n s′ dead (k + 1) (i + 1)
-    unfolding kept replaced wordsOfAll
-    pass-live t s′ es =
-        let rs = recordsOf s₀ in
-        let a = recordWords * k + recordWords in
-        let l0 = p .long in
-        let f0 = p .few in
-        let i0 = p .inside in
-        let k0 = p .closer in
-        let c0 = p .count in
-        let lives : livesOn c later r ≡ true = sym ex ∙ t in
-        let alone : kept c later (r ∷ []) ≡ r ∷ [] = rw lives in
-        let none : replaced c later (r ∷ []) ≡ [] = rw lives in
-        let more : kept c later (take (i + 1) rs) ≡ kept c later (take i rs) ++ (r ∷ []) =
-        ap (kept c later) one-more ∙ kept-append c later (take i rs) (r ∷ []) ∙ ap (λ (l : List Record). kept c later (take i rs) ++ l) alone in
-        let same : replaced c later (take (i + 1) rs) ≡ replaced c later (take i rs) =
-        ap (replaced c later) one-more ∙ replaced-append c later (take i rs) (r ∷ []) ∙ ap (λ (l : List Record). replaced c later (take i rs) ++ l) none ∙ append-nil (replaced c later (take i rs)) in
-        let la : length (take a s) ≡ a = length-take-le a s (omega arith) in
-        let ea : recordWords * (k + 1) + recordWords ≡ a + recordWords = omega arith in
-        let eb : s′ ≡ (take a s ++ wordsOf r) ++ drop (a + recordWords) s = es ∙ sym (append-assoc (take a s) (wordsOf r) (drop (a + recordWords) s)) in
-        let lb : length (take a s ++ wordsOf r) ≡ a + recordWords = simp (length-append, la) in
-        let ec : drop (a + recordWords) s′ ≡ drop (a + recordWords) s = ap (drop (a + recordWords)) eb ∙ drop-at (take a s ++ wordsOf r) (drop (a + recordWords) s) (a + recordWords) lb in
-        let g = recordWords * (i - k) in
-        let ed : recordWords * (i + 1) + recordWords ≡ a + recordWords + g = omega arith in
-        let later-same : drop (recordWords * (i + 1) + recordWords) s′ ≡ drop (recordWords * (i + 1) + recordWords) s =
-        ap (λ (j : ℕ). drop j s′) ed ∙ sym (drop-drop g (a + recordWords) s′) ∙ ap (drop g) ec ∙ drop-drop g (a + recordWords) s ∙ ap (λ (j : ℕ). drop j s) (sym ed) in
-        let fewer : i + 1 - (k + 1) ≡ i - k = omega arith in
-        record {
-          held = p .held;
-          few = f0;
-          long = ap length eb ∙ simp (length-append, la, length-drop) (omega arith);
-          inside = omega arith;
-          closer = omega arith;
-          count = ap length more ∙ simp length-append (omega arith);
-          first = ap (λ (j : ℕ). take j s′) ea ∙ ap (take (a + recordWords)) eb ∙ take-at (take a s ++ wordsOf r) (drop (a + recordWords) s) (a + recordWords) lb ∙ ap (λ (l : List ℤ). l ++ wordsOf r) (p .first) ∙ append-assoc (take recordWords s₀) (wordsOfAll (kept c later (take i rs))) (wordsOf r) ∙ ap (λ (l : List ℤ). take recordWords s₀ ++ l) (sym (ap wordsOfAll more ∙ words-append (kept c later (take i rs)) (r ∷ [])));
-          rest = later-same ∙ later-words s (p .rest);
-          ranged = later-ranged;
-          long-dead = p .long-dead;
-          dead-are = ap (λ (j : ℕ). readRecords j dead) fewer ∙ p .dead-are ∙ sym same;
-          dead-ranged = rw fewer (p .dead-ranged);
-        }
+  abbrev anew : Record → Record
+  anew x = placedIn to (x .report)
 
-    pub pass-dead : x ≡ false → (a : Record) → a ≡ placedIn later (r .report) → (dead′ : List ℤ) → dead′ ≡ take (recordWords * (i - k)) dead ++ (wordsOf a ++ drop (recordWords * (i - k) + recordWords) dead) → Pass s₀ c later n s dead′ k (i + 1)
-    unfolding kept replaced allRanged
-    pass-dead t a ea dead′ ed =
-        let rs = recordsOf s₀ in
-        let m = i - k in
-        let f0 = p .few in
-        let i0 = p .inside in
-        let k0 = p .closer in
-        let l0 = p .long-dead in
-        let dies : livesOn c later r ≡ false = sym ex ∙ t in
-        let none : kept c later (r ∷ []) ≡ [] = rw dies in
-        let alone : replaced c later (r ∷ []) ≡ a ∷ [] = (rw dies) ∙ ap (λ (b : Record). b ∷ []) (sym ea) in
-        let same : kept c later (take (i + 1) rs) ≡ kept c later (take i rs) =
-        ap (kept c later) one-more ∙ kept-append c later (take i rs) (r ∷ []) ∙ ap (λ (l : List Record). kept c later (take i rs) ++ l) none ∙ append-nil (kept c later (take i rs)) in
-        let more : replaced c later (take (i + 1) rs) ≡ replaced c later (take i rs) ++ (a ∷ []) =
-        ap (replaced c later) one-more ∙ replaced-append c later (take i rs) (r ∷ []) ∙ ap (λ (l : List Record). replaced c later (take i rs) ++ l) alone in
-        let next : readRecords (m + 1) dead′ ≡ readRecords m dead ++ (a ∷ []) = read-next m dead dead′ a (omega arith) ed in
-        let em : i + 1 - k ≡ m + 1 = omega arith in
-        let ra : isRanged a ≡ true = rw ea (placed-ranged later r pass-ranged) in
-        let rd : allRanged (readRecords m dead ++ (a ∷ [])) ≡ true = ranged-append (readRecords m dead) (a ∷ []) (p .dead-ranged) (and-true (isRanged a) true ra refl) in
-        record {
-          held = p .held;
-          few = f0;
-          long = p .long;
-          inside = omega arith;
-          closer = omega arith;
-          count = ap length same ∙ p .count;
-          first = p .first ∙ ap (λ (l : List Record). take recordWords s₀ ++ wordsOfAll l) (sym same);
-          rest = later-words s (p .rest);
-          ranged = later-ranged;
-          long-dead = ap length ed ∙ simp (length-append, length-take, length-drop) (omega arith);
-          dead-are = ap (λ (j : ℕ). readRecords j dead′) em ∙ next ∙ ap (λ (l : List Record). l ++ (a ∷ [])) (p .dead-are) ∙ sym more;
-          dead-ranged = rw (em, next) rd;
-        }
+  -- of one record more, those that pass
+  passes : (test : Record → Bool) → test r ≡ true → passing test (take (i + 1) (recordsOf s₀)) ≡ passing test (take i (recordsOf s₀)) ++ (r ∷ [])
+  unfolding passing
+  passes test e =
+      let alone : passing test (r ∷ []) ≡ r ∷ [] = rw e in
+      let before = take i (recordsOf s₀) in
+      ap (passing test) one-more
+      ∙ passing-append test before (r ∷ [])
+      ∙ ap (λ (l : List Record). passing test before ++ l) alone
 
-pub pass-end : (s₀ : List ℤ) (c later n : ℕ) (s dead : List ℤ) (k i : ℕ) → Pass s₀ c later n s dead k i → n ≤ i → (KeptFirst c later s₀ k s) × (Taken c later (recordsOf s₀) (heldOf s₀ - k) dead)
-pass-end s₀ c later n s dead k i p h =
+  fails : (test : Record → Bool) → test r ≡ false → passing test (take (i + 1) (recordsOf s₀)) ≡ passing test (take i (recordsOf s₀))
+  unfolding passing
+  fails test e =
+      let none : passing test (r ∷ []) ≡ [] = rw e in
+      let before = take i (recordsOf s₀) in
+      ap (passing test) one-more
+      ∙ passing-append test before (r ∷ [])
+      ∙ ap (λ (l : List Record). passing test before ++ l) none
+      ∙ append-nil (passing test before)
+
+  pub pass-live : staying r ≡ true → moving r ≡ false → (s′ : List ℤ)
+      → s′ ≡ take (recordWords * k + recordWords) s ++ (wordsOf r ++ drop (recordWords * k + recordWords + recordWords) s)
+      → Pass s₀ to staying moving n s′ dead (k + 1) (i + 1)
+  unfolding passing wordsOfAll
+  pass-live stay rest s′ es =
+      let rs = recordsOf s₀ in
+      let a = recordWords * k + recordWords in
+      let l0 = p .long in
+      let f0 = p .few in
+      let i0 = p .inside in
+      let k0 = p .closer in
+      let c0 = p .count in
+      let more : passing staying (take (i + 1) rs) ≡ passing staying (take i rs) ++ (r ∷ []) = passes staying stay in
+      let same : replaced to moving (take (i + 1) rs) ≡ replaced to moving (take i rs) = ap (map anew) (fails moving rest) in
+      let la : length (take a s) ≡ a = length-take-le a s (omega arith) in
+      let ea : recordWords * (k + 1) + recordWords ≡ a + recordWords = omega arith in
+      let eb : s′ ≡ (take a s ++ wordsOf r) ++ drop (a + recordWords) s = es ∙ sym (append-assoc (take a s) (wordsOf r) (drop (a + recordWords) s)) in
+      let lb : length (take a s ++ wordsOf r) ≡ a + recordWords = simp (length-append, la) in
+      let ec : drop (a + recordWords) s′ ≡ drop (a + recordWords) s = ap (drop (a + recordWords)) eb ∙ drop-at (take a s ++ wordsOf r) (drop (a + recordWords) s) (a + recordWords) lb in
+      let g = recordWords * (i - k) in
+      let ed : recordWords * (i + 1) + recordWords ≡ a + recordWords + g = omega arith in
+      let later-same : drop (recordWords * (i + 1) + recordWords) s′ ≡ drop (recordWords * (i + 1) + recordWords) s =
+      ap (λ (j : ℕ). drop j s′) ed ∙ sym (drop-drop g (a + recordWords) s′) ∙ ap (drop g) ec ∙ drop-drop g (a + recordWords) s ∙ ap (λ (j : ℕ). drop j s) (sym ed) in
+      let fewer : i + 1 - (k + 1) ≡ i - k = omega arith in
+      record {
+        held = p .held;
+        few = f0;
+        long = ap length eb ∙ simp (length-append, la, length-drop) (omega arith);
+        inside = omega arith;
+        closer = omega arith;
+        count = ap length more ∙ simp length-append (omega arith);
+        first =
+            ap (λ (j : ℕ). take j s′) ea
+            ∙ ap (take (a + recordWords)) eb
+            ∙ take-at (take a s ++ wordsOf r) (drop (a + recordWords) s) (a + recordWords) lb
+            ∙ ap (λ (l : List ℤ). l ++ wordsOf r) (p .first)
+            ∙ append-assoc (take recordWords s₀) (wordsOfAll (passing staying (take i rs))) (wordsOf r)
+            ∙ ap (λ (l : List ℤ). take recordWords s₀ ++ l) (sym (ap wordsOfAll more ∙ words-append (passing staying (take i rs)) (r ∷ [])));
+        rest = later-same ∙ later-words s (p .rest);
+        ranged = later-ranged;
+        long-dead = p .long-dead;
+        dead-are = ap (λ (j : ℕ). readRecords j dead) fewer ∙ p .dead-are ∙ sym same;
+        dead-ranged = rw fewer (p .dead-ranged);
+      }
+
+  pub pass-dead : staying r ≡ false → moving r ≡ true → (a : Record) → a ≡ placedIn to (r .report) → (dead′ : List ℤ)
+      → dead′ ≡ take (recordWords * (i - k)) dead ++ (wordsOf a ++ drop (recordWords * (i - k) + recordWords) dead)
+      → Pass s₀ to staying moving n s dead′ k (i + 1)
+  unfolding passing allRanged
+  pass-dead rest move a ea dead′ ed =
+      let rs = recordsOf s₀ in
+      let m = i - k in
+      let f0 = p .few in
+      let i0 = p .inside in
+      let k0 = p .closer in
+      let l0 = p .long-dead in
+      let same : passing staying (take (i + 1) rs) ≡ passing staying (take i rs) = fails staying rest in
+      let more : replaced to moving (take (i + 1) rs) ≡ replaced to moving (take i rs) ++ (a ∷ []) =
+      ap (map anew) (passes moving move)
+      ∙ map-append anew (passing moving (take i rs)) (r ∷ [])
+      ∙ ap (λ (x : Record). replaced to moving (take i rs) ++ (x ∷ [])) (sym ea) in
+      let next : readRecords (m + 1) dead′ ≡ readRecords m dead ++ (a ∷ []) = read-next m dead dead′ a (omega arith) ed in
+      let em : i + 1 - k ≡ m + 1 = omega arith in
+      let ra : isRanged a ≡ true = rw ea (placed-ranged to r pass-ranged) in
+      let rd : allRanged (readRecords m dead ++ (a ∷ [])) ≡ true = ranged-append (readRecords m dead) (a ∷ []) (p .dead-ranged) (and-true (isRanged a) true ra refl) in
+      record {
+        held = p .held;
+        few = f0;
+        long = p .long;
+        inside = omega arith;
+        closer = omega arith;
+        count = ap length same ∙ p .count;
+        first = p .first ∙ ap (λ (l : List Record). take recordWords s₀ ++ wordsOfAll l) (sym same);
+        rest = later-words s (p .rest);
+        ranged = later-ranged;
+        long-dead = ap length ed ∙ simp (length-append, length-take, length-drop) (omega arith);
+        dead-are = ap (λ (j : ℕ). readRecords j dead′) em ∙ next ∙ ap (λ (l : List Record). l ++ (a ∷ [])) (p .dead-are) ∙ sym more;
+        dead-ranged = rw (em, next) rd;
+      }
+
+pub pass-end : (s₀ : List ℤ) (to : ℕ) (staying moving : Record → Bool) (n : ℕ) (s dead : List ℤ) (k i : ℕ)
+    → Pass s₀ to staying moving n s dead k i → n ≤ i → (KeptFirst staying s₀ k s) × (Taken to moving (recordsOf s₀) (heldOf s₀ - k) dead)
+pass-end s₀ to staying moving n s dead k i p h =
     let rs = recordsOf s₀ in
     let count = held-records s₀ in
     let e = p .held in
@@ -260,28 +289,32 @@ pass-end s₀ c later n s dead k i p h =
     let k0 = p .closer in
     let all : take i rs ≡ rs = take-all i rs (omega arith) in
     let ei : i ≡ heldOf s₀ = omega arith in
-    let c0 : length (kept c later rs) ≡ k = ap (λ (l : List Record). length (kept c later l)) (sym all) ∙ p .count in (
+    let c0 : length (passing staying rs) ≡ k = ap (λ (l : List Record). length (passing staying l)) (sym all) ∙ p .count in (
       record {
         count = c0;
         within = omega arith;
-        first = p .first ∙ ap (λ (l : List Record). take recordWords s₀ ++ wordsOfAll (kept c later l)) all;
+        first = p .first ∙ ap (λ (l : List Record). take recordWords s₀ ++ wordsOfAll (passing staying l)) all;
         unused = rw (← ei) (p .rest);
       },
       record {
-        dead-are = rw (← ei) (p .dead-are ∙ ap (replaced c later) all);
+        dead-are = rw (← ei) (p .dead-are ∙ ap (replaced to moving) all);
         inside = omega arith;
-        total = omega arith;
         ranged = rw (← ei) (p .dead-ranged);
       },
     )
 
 -- the words between the kept records and the unused ones zeroed, and the count set
-pub taken-out : (s₀ s ys s′ : List ℤ) (c later n k : ℕ) → IsStore s₀ → n ≡ heldOf s₀ → KeptFirst c later s₀ k s → length s ≡ length s₀ → let a = recordWords * k + recordWords in let e = recordWords * n + recordWords in ys ≡ replicate (length (take (e - a) (drop a s))) (pos 0) → s′ ≡ set (take a s ++ (ys ++ drop (e - a) (drop a s))) 1 (pos k) → s′ ≡ storeOf (nowOf s₀) (kept c later (recordsOf s₀))
+pub taken-out : (s₀ s ys s′ : List ℤ) (staying : Record → Bool) (n k : ℕ) → IsStore s₀ → n ≡ heldOf s₀ → KeptFirst staying s₀ k s → length s ≡ length s₀
+    → let a = recordWords * k + recordWords in
+    let e = recordWords * n + recordWords in
+    ys ≡ replicate (length (take (e - a) (drop a s))) (pos 0)
+    → s′ ≡ set (take a s ++ (ys ++ drop (e - a) (drop a s))) 1 (pos k)
+    → s′ ≡ storeOf (nowOf s₀) (passing staying (recordsOf s₀))
 unfolding storeOf
-taken-out s₀ s ys s′ c later n k q en f ls ey es =
+taken-out s₀ s ys s′ staying n k q en f ls ey es =
     let now = nowOf s₀ in
     let rs = recordsOf s₀ in
-    let left = kept c later rs in
+    let left = passing staying rs in
     let room = store-room s₀ q in
     let lr : length rs ≡ n = room .count ∙ sym en in
     let few = room .few in
@@ -291,7 +324,8 @@ taken-out s₀ s ys s′ c later n k q en f ls ey es =
     let e = recordWords * n + recordWords in
     let zeros : ℕ → List ℤ = λ j. replicate j (pos 0) in
     let le : length (header now (length rs) ++ wordsOfAll rs) ≡ e = simp (length-append, words-length) (omega arith) in
-    let end : drop e s₀ ≡ zeros (recordWords * (capacity - length rs)) = ap (drop e) (q .words) ∙ drop-at (header now (length rs) ++ wordsOfAll rs) (zeros (recordWords * (capacity - length rs))) e le in
+    let end : drop e s₀ ≡ zeros (recordWords * (capacity - length rs)) =
+    ap (drop e) (q .words) ∙ drop-at (header now (length rs) ++ wordsOfAll rs) (zeros (recordWords * (capacity - length rs))) e le in
     let ea : a + (e - a) ≡ e = omega arith in
     let dn : drop (e - a) (drop a s) ≡ zeros (recordWords * (capacity - length rs)) = drop-drop (e - a) a s ∙ ap (λ (j : ℕ). drop j s) ea ∙ (rw en (f .unused)) ∙ end in
     let lg : length (take (e - a) (drop a s)) ≡ e - a = length-take-le (e - a) (drop a s) (simp length-drop (omega arith)) in
@@ -364,24 +398,31 @@ none-widened t dead m e = sym (ap (withSpeeds t) (no-records m dead e) ∙ speed
 
 -- ---- the two halves of a step
 
-pub step-asks : (s₀ s t dead : List ℤ) (c later m : ℕ) → IsStore s₀ → s ≡ storeOf (nowOf s₀) (kept c later (recordsOf s₀)) → Taken c later (recordsOf s₀) m dead → length t ≡ tableWords → PlaceAsked s t dead m
-step-asks s₀ s t dead c later m q es k l =
-    let left = kept c later (recordsOf s₀) in
-    let f = q .few in
-    let a = k .total in
-    let n : length (recordsOf s) ≡ length left = ap length (records-are (nowOf s₀) left s es) in
-    record {
-      store = words-of (nowOf s₀) left s es (omega arith);
-      table = l;
-      inside = k .inside;
-      total = omega arith;
-      ranged = k .ranged;
-    }
+module _ (s₀ s dead : List ℤ) (now time : ℤ) (m : ℕ) (es : s ≡ storeOf (nowOf s₀) (passing (stays now time) (recordsOf s₀)))
+    (k : Taken (phaseOf time) (moves now time) (recordsOf s₀) m dead) where
+  left : List Record
+  left = passing (stays now time) (recordsOf s₀)
 
-pub step-stored : (s₀ s s′ dead : List ℤ) (c later m : ℕ) → s ≡ storeOf (nowOf s₀) (kept c later (recordsOf s₀)) → Taken c later (recordsOf s₀) m dead → s′ ≡ storeOf (nowOf s) (insertedAll (readRecords m dead) (recordsOf s)) → s′ ≡ storeOf (nowOf s₀) (steppedRecords c later (recordsOf s₀))
-step-stored s₀ s s′ dead c later m es k e =
-    let left = kept c later (recordsOf s₀) in
-    e ∙ (λ i. storeOf (now-is (nowOf s₀) left s es i) (insertedAll (k .dead-are i) (records-are (nowOf s₀) left s es i)))
+  pub step-asks : (t : List ℤ) → IsStore s₀ → length t ≡ tableWords → PlaceAsked s t dead m
+  unfolding left
+  step-asks t q l =
+      let f = q .few in
+      let a = halves-few now time (recordsOf s₀) in
+      let b : m ≡ length (replaced (phaseOf time) (moves now time) (recordsOf s₀)) = sym (read-length m dead) ∙ ap length (k .dead-are) in
+      let n : length (recordsOf s) ≡ length left = ap length (records-are (nowOf s₀) left s es) in
+      record {
+        store = words-of (nowOf s₀) left s es (omega arith);
+        table = l;
+        inside = k .inside;
+        total = omega arith;
+        ranged = k .ranged;
+      }
 
-pub step-widened : (t t′ dead : List ℤ) (c later m : ℕ) (rs : List Record) → Taken c later rs m dead → t′ ≡ withSpeeds t (readRecords m dead) → t′ ≡ withSpeeds t (replaced c later rs)
-step-widened t t′ dead c later m rs k e = e ∙ ap (withSpeeds t) (k .dead-are)
+  pub step-stored : (s′ : List ℤ) → s′ ≡ storeOf (nowOf s) (insertedAll (readRecords m dead) (recordsOf s)) → s′ ≡ storeOf (nowOf s₀) (steppedRecords now time (recordsOf s₀))
+  unfolding left steppedRecords
+  step-stored s′ e =
+      e ∙ (λ i. storeOf (now-is (nowOf s₀) left s es i) (insertedAll (k .dead-are i) (records-are (nowOf s₀) left s es i)))
+
+pub step-widened : (t t′ dead : List ℤ) (to : ℕ) (moving : Record → Bool) (m : ℕ) (rs : List Record) → Taken to moving rs m dead
+    → t′ ≡ withSpeeds t (readRecords m dead) → t′ ≡ withSpeeds t (replaced to moving rs)
+step-widened t t′ dead to moving m rs k e = e ∙ ap (withSpeeds t) (k .dead-are)

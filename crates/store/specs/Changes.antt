@@ -1,12 +1,13 @@
 -- The changes of a store, as changes of its sorted list of records.
 -- Assumes nothing.
-use mathlib.Core.Bool.{Bool, cond}
-use mathlib.Core.List.{List, [], _∷_}
+use mathlib.Core.Bool.{Bool, cond, not}
+use mathlib.Core.List.{List, [], _∷_, map}
 use Prim.Native.Nat.{ℕ}
 use lib.IntN.{ℤ}
 use Rattle.ints.specs.Whole.{eqZ}
+use Rattle.ints.specs.Lists.{passing}
 use Rattle.grid.specs.declared.Report.{Report}
-use Rattle.rows.specs.Phases.{isLive}
+use Rattle.rows.specs.Phases.{phaseOf, isLive}
 use Rattle.rows.specs.Table.{withSpeed}
 use Rattle.records.specs.Order.{keyIn, slotOfKey, numberOfKey, phaseOfKey, precedes}
 use Rattle.records.specs.declared.Record.{Record}
@@ -29,25 +30,26 @@ removed id (a ∷ rs) = cond (eqZ (a .report .id) id) rs (a ∷ removed id rs)
 abbrev pub placedIn : ℕ → Report → Record
 placedIn p r = record { key = keyIn p r; report = r }
 
--- whether a record's phase lives on when the current phase goes from c to later
-abbrev pub livesOn : ℕ → ℕ → Record → Bool
-livesOn c later r = isLive later (phaseOfKey c (r .key))
+-- ---- the clock step, from now to a time
 
--- the records that live on, and those of dead phases placed in the phase `later`
-unfoldable pub kept : ℕ → ℕ → List Record → List Record
-kept c later [] = []
-kept c later (r ∷ rs) = cond (livesOn c later r) (r ∷ kept c later rs) (kept c later rs)
+-- a record whose phase lives on stays as it is
+abbrev pub stays : ℤ → ℤ → Record → Bool
+stays now time r = isLive (phaseOf time) (phaseOfKey (phaseOf now) (r .key))
 
-unfoldable pub replaced : ℕ → ℕ → List Record → List Record
-replaced c later [] = []
-replaced c later (r ∷ rs) =
-    cond (livesOn c later r) (replaced c later rs) (placedIn later (r .report) ∷ replaced c later rs)
+-- any other moves: it is placed anew, in the phase of the time
+abbrev pub moves : ℤ → ℤ → Record → Bool
+moves now time r = not (stays now time r)
 
--- the records after the current phase went from c to later
-abbrev pub steppedRecords : ℕ → ℕ → List Record → List Record
-steppedRecords c later rs = insertedAll (replaced c later rs) (kept c later rs)
+-- of some records, those that move, placed in phase p
+abbrev pub replaced : ℕ → (Record → Bool) → List Record → List Record
+replaced p moving rs = map (λ r. placedIn p (r .report)) (passing moving rs)
 
--- the table with the row of each of those records widened by its speeds
+-- the records after the clock went from now to a time
+unfoldable pub steppedRecords : ℤ → ℤ → List Record → List Record
+steppedRecords now time rs =
+    insertedAll (replaced (phaseOf time) (moves now time) rs) (passing (stays now time) rs)
+
+-- the table with the row of each of some records widened by its speeds
 unfoldable pub withSpeeds : List ℤ → List Record → List ℤ
 withSpeeds t [] = t
 withSpeeds t (r ∷ rs) =

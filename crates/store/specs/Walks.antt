@@ -7,12 +7,16 @@ use Prim.Native.Nat.{ℕ, _+_, _-_, _*_, _≤_}
 use lib.IntN.{ℤ}
 use lib.ListN.{length, take, drop}
 use Rattle.ints.specs.Whole.{eqZ}
+use Rattle.ints.specs.Lists.{passing}
 use Rattle.grid.specs.Units.{capacity}
+use Rattle.grid.specs.Reports.{isTime}
+use Rattle.rows.specs.Phases.{phaseOf}
 use Rattle.rows.specs.Table.{tableWords}
 use Rattle.records.specs.Records.{recordWords, heldOf, readRecords, recordsOf, wordsOfAll}
 use Rattle.records.specs.Order.{precedes}
 use Rattle.records.specs.Soundness.{allRanged}
-use Rattle.store.specs.Changes.{kept, replaced}
+use Rattle.store.specs.Changes.{replaced}
+use Rattle.store.specs.declared.changes.Step.{Step}
 use Rattle.records.specs.declared.Record.{Record}
 use Rattle.records.specs.Places.{firstOf, HasWords}
 
@@ -27,19 +31,25 @@ hasThat id a = eqZ (a .report .id) id
 abbrev pub indexOf : ℤ → List Record → ℕ
 indexOf id = firstOf (hasThat id)
 
--- the records that live on written one after the other behind record 0 of a store, the words from its last record on as they were; what lies between
+-- a clock step between two times, with the phases in which they lie
+pub record IsStep (step : Step) : Type 0 where
+  pub is-now : isTime (step .now) ≡ true
+  pub is-time : isTime (step .time) ≡ true
+  pub from-is : step .from ≡ phaseOf (step .now)
+  pub to-is : step .to ≡ phaseOf (step .time)
+
+-- the records that stay written one after the other behind record 0 of a store, the words from its last record on as they were; what lies between
 -- is left open
-pub record KeptFirst (c later : ℕ) (s : List ℤ) (k : ℕ) (s′ : List ℤ) : Type 0 where
-  pub count : length (kept c later (recordsOf s)) ≡ k
+pub record KeptFirst (staying : Record → Bool) (s : List ℤ) (k : ℕ) (s′ : List ℤ) : Type 0 where
+  pub count : length (passing staying (recordsOf s)) ≡ k
   pub within : k ≤ heldOf s
-  pub first : take (recordWords * k + recordWords) s′ ≡ take recordWords s ++ wordsOfAll (kept c later (recordsOf s))
+  pub first : take (recordWords * k + recordWords) s′ ≡ take recordWords s ++ wordsOfAll (passing staying (recordsOf s))
   pub unused : drop (recordWords * heldOf s + recordWords) s′ ≡ drop (recordWords * heldOf s + recordWords) s
 
--- records in range, their number, and the place for them: what the two halves of a step hand over
-pub record Taken (c later : ℕ) (rs : List Record) (m : ℕ) (dead : List ℤ) : Type 0 where
-  pub dead-are : readRecords m dead ≡ replaced c later rs
+-- the records that move, placed in phase p and in range, and the place for them: what the two halves of a step hand over
+pub record Taken (p : ℕ) (moving : Record → Bool) (rs : List Record) (m : ℕ) (dead : List ℤ) : Type 0 where
+  pub dead-are : readRecords m dead ≡ replaced p moving rs
   pub inside : recordWords * m ≤ length dead
-  pub total : m + length (kept c later rs) ≡ length rs
   pub ranged : allRanged (readRecords m dead) ≡ true
 
 pub record PlaceAsked (s t dead : List ℤ) (m : ℕ) : Type 0 where

@@ -8,13 +8,15 @@ ghost use lib.ListN.{length, take, drop, replicate};
 ghost use Rattle.grid.specs.Units.{capacity};
 ghost use Rattle.grid.specs.Curve.{IsCurve};
 ghost use Rattle.grid.specs.Reports.{isTime, inRange};
+ghost use Rattle.ints.specs.Lists.{passing};
+ghost use Rattle.rows.specs.Phases.{phaseOf};
 ghost use Rattle.rows.specs.Table.{tableWords, withSpeed};
 ghost use Rattle.records.specs.Records.{recordWords, nowOf, heldOf, readRecords, recordsOf, wordsOf, storeOf};
 ghost use Rattle.records.specs.Order.{slotOfKey, numberOfKey, precedes, hasId};
 ghost use Rattle.records.specs.Soundness.{isRanged, allRanged, IsStore};
-ghost use Rattle.store.specs.Changes.{inserted, insertedAll, removed, placedIn, livesOn, kept, replaced, steppedRecords, withSpeeds};
+ghost use Rattle.store.specs.Changes.{inserted, insertedAll, removed, placedIn, stays, moves, replaced, steppedRecords, withSpeeds};
 ghost use Rattle.records.specs.Places.{HasWords};
-ghost use Rattle.store.specs.Walks.{placeOf, indexOf, KeptFirst, Taken, PlaceAsked};
+ghost use Rattle.store.specs.Walks.{placeOf, indexOf, IsStep, KeptFirst, Taken, PlaceAsked};
 use super::opening::clear;
 use super::sorting::put_all;
 use super::writing::set_held;
@@ -31,6 +33,7 @@ use records::soundness::phase_of_key;
 use records::soundness::precedes;
 use records::soundness::slot_of_key;
 use rows::is_live;
+use rows::phase_of;
 use rows::widen_row;
 
 // How many records stand before the one of an id; all of them where none has it.
@@ -179,12 +182,34 @@ pub fn set_now(store: &mut [i32], t: i32)
     store[0] = t;
 }
 
-// Whether the phase of a key lives on when the current phase goes from c to later.
-fn lives_on(c: usize, later: usize, r: Record) -> bool
-    requires { ⌜ c ≤ 277777 ⌝ }
-    ensures { λ b. ⌜ b ≡ livesOn c later r ⌝ }
+// A clock step: from now to a time, and the phases in which the two lie.
+pub struct Step {
+    pub now: i64,
+    pub time: i64,
+    pub from: usize,
+    pub to: usize,
+}
+
+impl Step {
+    pub fn between(now: i64, time: i64) -> Step
+        requires { ⌜ (isTime now ≡ true) × (isTime time ≡ true) ⌝ }
+        ensures { λ s. ⌜ (s .now ≡ now) × (s .time ≡ time) × (IsStep s) ⌝ }
+    {
+        Step {
+            now: now,
+            time: time,
+            from: phase_of(now),
+            to: phase_of(time),
+        }
+    }
+}
+
+// Whether a record stays as it is: its phase lives on.
+fn stays(step: Step, r: Record) -> bool
+    requires { ⌜ IsStep step ⌝ }
+    ensures { λ b. ⌜ b ≡ stays (step .now) (step .time) r ⌝ }
 {
-    is_live(later, phase_of_key(c, r.key))
+    is_live(step.to, phase_of_key(step.from, r.key))
 }
 
 // A report placed in phase p. `numbers` is the grid's table of curve numbers.
@@ -206,12 +231,12 @@ pub fn place_in(p: usize, r: Report) -> Record
     place_by(&numbers, p, r)
 }
 
-// One pass over the records: one that lives on is written after those kept before it, any other to `dead`, placed in the phase `later`. Gives back how
+// One pass over the records: one that stays is written after those kept before it, any other to `dead`, placed in the phase of the time. Gives back how
 // many are kept. The count and the words after the kept records stay as they are: `take_dead` sets them.
-fn keep_live(store: &mut [i32], c: usize, later: usize, dead: &mut [i32]) -> usize
-    requires { ⌜ (IsStore (now store)) × (c ≤ 277777) × (later ≤ 277777) × (length (now dead) ≡ 7168) ⌝ }
-    ensures { λ k. ⌜ KeptFirst c later (now (store .entry)) k (now (store .exit)) ⌝ }
-    ensures { λ k. ⌜ Taken c later (recordsOf (now (store .entry))) (heldOf (now (store .entry)) - k) (now (dead .exit)) ⌝ }
+fn keep_live(store: &mut [i32], step: Step, dead: &mut [i32]) -> usize
+    requires { ⌜ (IsStore (now store)) × (IsStep step) × (length (now dead) ≡ 7168) ⌝ }
+    ensures { λ k. ⌜ KeptFirst (stays (step .now) (step .time)) (now (store .entry)) k (now (store .exit)) ⌝ }
+    ensures { λ k. ⌜ Taken (phaseOf (step .time)) (moves (step .now) (step .time)) (recordsOf (now (store .entry))) (heldOf (now (store .entry)) - k) (now (dead .exit)) ⌝ }
 {
     let numbers = grid::curve_numbers();
     let n = held_of(store);
@@ -219,7 +244,7 @@ fn keep_live(store: &mut [i32], c: usize, later: usize, dead: &mut [i32]) -> usi
     let mut i = 0;
     while i < n {
         let r = Record::read_from(store, RECORD_WORDS * i + RECORD_WORDS);
-        if lives_on(c, later, r) {
+        if stays(step, r) {
             write_record(store, RECORD_WORDS * k + RECORD_WORDS, r);
             k += 1;
             i += 1;
@@ -227,7 +252,7 @@ fn keep_live(store: &mut [i32], c: usize, later: usize, dead: &mut [i32]) -> usi
             write_record(
                 dead,
                 RECORD_WORDS * (i - k),
-                place_by(&numbers, later, r.report),
+                place_by(&numbers, step.to, r.report),
             );
             i += 1;
         }
@@ -235,14 +260,14 @@ fn keep_live(store: &mut [i32], c: usize, later: usize, dead: &mut [i32]) -> usi
     k
 }
 
-// Takes the records of phases that do not live on out of the store, and writes them to `dead`, placed in the phase `later`. Gives back how many.
-fn take_dead(store: &mut [i32], c: usize, later: usize, dead: &mut [i32]) -> usize
-    requires { ⌜ (IsStore (now store)) × (c ≤ 277777) × (later ≤ 277777) × (length (now dead) ≡ 7168) ⌝ }
-    ensures { λ m. ⌜ now (store .exit) ≡ storeOf (nowOf (now (store .entry))) (kept c later (recordsOf (now (store .entry)))) ⌝ }
-    ensures { λ m. ⌜ Taken c later (recordsOf (now (store .entry))) m (now (dead .exit)) ⌝ }
+// Takes the records that move out of the store, and writes them to `dead`, placed in the phase of the time. Gives back how many.
+fn take_dead(store: &mut [i32], step: Step, dead: &mut [i32]) -> usize
+    requires { ⌜ (IsStore (now store)) × (IsStep step) × (length (now dead) ≡ 7168) ⌝ }
+    ensures { λ m. ⌜ now (store .exit) ≡ storeOf (nowOf (now (store .entry))) (passing (stays (step .now) (step .time)) (recordsOf (now (store .entry)))) ⌝ }
+    ensures { λ m. ⌜ Taken (phaseOf (step .time)) (moves (step .now) (step .time)) (recordsOf (now (store .entry))) m (now (dead .exit)) ⌝ }
 {
     let n = held_of(store);
-    let k = keep_live(store, c, later, dead);
+    let k = keep_live(store, step, dead);
     let start = RECORD_WORDS * k + RECORD_WORDS;
     let end = RECORD_WORDS * n + RECORD_WORDS;
     clear(&mut store[start..end]);
@@ -285,13 +310,13 @@ fn place_dead(store: &mut [i32], table: &mut [i16], dead: &[i32], m: usize)
     put_all(store, dead, m);
 }
 
-// The current phase goes from c to later: the records that do not live on are placed in the phase `later`, and the row of each is widened.
-pub fn step_records(store: &mut [i32], table: &mut [i16], c: usize, later: usize)
-    requires { ⌜ (IsStore (now store)) × (length (now table) ≡ tableWords) × (c ≤ 277777) × (later ≤ 277777) ⌝ }
-    ensures { λ u. ⌜ now (store .exit) ≡ storeOf (nowOf (now (store .entry))) (steppedRecords c later (recordsOf (now (store .entry)))) ⌝ }
-    ensures { λ u. ⌜ now (table .exit) ≡ withSpeeds (now (table .entry)) (replaced c later (recordsOf (now (store .entry)))) ⌝ }
+// The records after a clock step: those that move are placed in the phase of the time, and the row of each is widened. The time itself is set apart.
+pub fn step_records(store: &mut [i32], table: &mut [i16], step: Step)
+    requires { ⌜ (IsStore (now store)) × (length (now table) ≡ tableWords) × (IsStep step) ⌝ }
+    ensures { λ u. ⌜ now (store .exit) ≡ storeOf (nowOf (now (store .entry))) (steppedRecords (step .now) (step .time) (recordsOf (now (store .entry)))) ⌝ }
+    ensures { λ u. ⌜ now (table .exit) ≡ withSpeeds (now (table .entry)) (replaced (phaseOf (step .time)) (moves (step .now) (step .time)) (recordsOf (now (store .entry)))) ⌝ }
 {
     let mut dead = [0i32; 7168];
-    let m = take_dead(store, c, later, &mut dead);
+    let m = take_dead(store, step, &mut dead);
     place_dead(store, table, &dead, m);
 }

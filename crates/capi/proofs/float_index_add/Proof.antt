@@ -5,7 +5,9 @@ use borrow.Author.Needs.{needs}
 use mir.Syntax.{w32}
 use Rattle.ints.proofs.Machine.{held}
 use Rattle.grid.specs.declared.Report.{Report}
-use Rattle.engine.specs.Index.{addOut}
+use Rattle.records.specs.Words.{words}
+use Rattle.ledger.specs.declared.Change.the-variants as Change
+use Rattle.engine.specs.Index.{changeOut}
 use Rattle.engine.specs.Gives.{Gives}
 use Rattle.capi.specs.Replies.{reportOf}
 use Rattle.capi.proofs.ReplyLaws.{replied}
@@ -32,9 +34,19 @@ returns c =
     let k = c .before .before .before in
     let o = k .before in
     let a = o .before .before .before .args in
-    let e : o .report-of .result ≡ reportOf (a .id) (a .t) (a .x) (a .y) (a .vx) (a .vy) = rw (held w32 (a .id) (search needs), held w32 (a .t) (search needs), held w32 (a .x) (search needs), held w32 (a .y) (search needs), held w32 (a .vx) (search needs), held w32 (a .vy) (search needs)) at (o .report-of .ensures) in
-    replied (addOut (a .store .now) (a .table .now) (reportOf (a .id) (a .t) (a .x) (a .y) (a .vx) (a .vy))) (k .add .result) (c .reply-of .result) (k .add .last .0) (k .add .last .1 .0)
-    (subst (λ (r : Report). Gives (addOut (a .store .now) (a .table .now) r) (k .add .result) (k .add .last .0) (k .add .last .1 .0)) e (k .add .ensures))
+    let e : o .report-of .result
+    ≡ reportOf (a .id) (a .t) (a .x) (a .y) (a .vx) (a .vy) = rw (
+      held w32 (a .id) (search needs),
+      held w32 (a .t) (search needs),
+      held w32 (a .x) (search needs),
+      held w32 (a .y) (search needs),
+      held w32 (a .vx) (search needs),
+      held w32
+          (a .vy) (search needs),
+    ) at (o .report-of .ensures) in
+    replied (changeOut (words (a .store .now) (a .table .now)) (Change.Add (reportOf (a .id) (a .t) (a .x) (a .y) (a .vx) (a .vy)))) (k .add .result) (c .reply-of .result)
+    (words (k .add .last .0) (k .add .last .1 .0))
+    (subst (λ (r : Report). Gives (changeOut (words (a .store .now) (a .table .now)) (Change.Add r)) (k .add .result) (words (k .add .last .0) (k .add .last .1 .0))) e (k .add .ensures))
     (c .reply-of .ensures)
 
 pub float-index-add-spec : {M : Type 1} → statement M

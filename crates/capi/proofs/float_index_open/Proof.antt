@@ -3,6 +3,7 @@
 use borrow.Author.Needs.{needs}
 use mir.Syntax.{w32}
 use Rattle.ints.proofs.Machine.{held}
+use Rattle.records.specs.Words.{words}
 use Rattle.engine.specs.Index.{openOut}
 use Rattle.capi.proofs.ReplyLaws.{replied}
 use Rattle.capi.proofs.float_index_open.Statement.{statement}
@@ -24,7 +25,8 @@ returns : tie.Need-returns
 returns c =
     let k = c .before .before .before in
     let a = k .before .before .before .args in
-    replied (openOut (a .store .now) (a .table .now) (a .t)) (k .«open» .result) (c .reply-of .result) (k .«open» .last .0) (k .«open» .last .1 .0) (rw (held w32 (a .t) (search needs)) at (k .«open» .ensures)) (c .reply-of .ensures)
+    replied (openOut (words (a .store .now) (a .table .now)) (a .t)) (k .«open» .result) (c .reply-of .result) (words (k .«open» .last .0) (k .«open» .last .1 .0))
+    (rw (held w32 (a .t) (search needs)) at (k .«open» .ensures)) (c .reply-of .ensures)
 
 pub float-index-open-spec : {M : Type 1} → statement M
 float-index-open-spec = tie.close (tie.spec open-requires reply-of-requires same-length same-length-2 returns)

@@ -1,50 +1,52 @@
--- `engine::ask` meets its contract: refused for its buffers, the list stays; else the ask over sound ones.
+-- `engine::ask` meets its contract: refused for its buffers, the list stays; else the call over sound ones.
 -- Assumes nothing.
-use mathlib.Core.Path.{_≡_, sym, _∙_}
-use mathlib.Core.Bool.{false}
 use borrow.Author.Needs.{needs}
-use borrow.Author.Tests.{not-true, not-false}
-use mir.Syntax.{w32}
-use Rattle.ints.proofs.Machine.{held}
-use Rattle.ledger.specs.Answers.{isAccepted}
-use Rattle.engine.proofs.CheckLaws.{lent-refused, lent-sound}
-use Rattle.engine.proofs.CallLaws.{ask-refused}
+use Rattle.records.specs.Words.{words}
+use Rattle.engine.specs.Index.{askOut}
+use Rattle.engine.proofs.CheckLaws.{lent-failed, lent-sound}
+use Rattle.engine.proofs.GivesLaws.{list-refused}
 use Rattle.engine.proofs.ask.Statement.{statement}
 use Rattle.engine.proofs.ask.Tie as tie
 
-lent-answer-requires : tie.Need-lent-answer-requires
-lent-answer-requires c κs = search needs
+lent-verdict-requires : tie.Need-lent-verdict-requires
+lent-verdict-requires c κs = search needs
 
-is-accepted-requires : tie.Need-is-accepted-requires
-is-accepted-requires c κs = search needs
+enum-known-why : tie.Need-enum-known-why
+enum-known-why c = search needs
 
-refused : (c : tie.Then1) → isAccepted (c .before .before .lent-answer .result) ≡ false
-refused c = sym (c .before .is-accepted .ensures) ∙ not-true (c .before .is-accepted .result) (c .if1 .taken)
-
-returns : tie.Need-returns
-returns c =
-    let o = c .before .before in
-    let a = o .before .before .args in
-    ask-refused (a .store .now) (a .table .now) (a .method) (a .asked) (a .q) (a .list .now) (o .lent-answer .result)
-    (lent-refused (a .store .now) (a .table .now) (o .lent-answer .result) (o .lent-answer .ensures) _ _ (refused c))
-    (refused c)
+enum-told : tie.Need-enum-told
+enum-told c = search needs
 
 ask-requires : tie.Need-ask-requires
 ask-requires c κs =
-    let e = c .before in
-    let o = e .before .before in
-    let a = o .before .before .args in
-    lent-sound (a .store .now) (a .table .now) (o .lent-answer .result) (o .lent-answer .ensures)
-    (sym (e .before .is-accepted .ensures) ∙ not-false (e .before .is-accepted .result) (e .if1 .left))
+    let k = c .before in
+    let v = k .before .before in
+    let a = v .before .before .args in
+    lent-sound (words (a .store .now) (a .table .now)) (v .lent-verdict .result) (v .lent-verdict .ensures) (k .enum-told .given .1)
+
+returns : tie.Need-returns
+unfolding askOut
+returns c =
+    let k = c .before in
+    let v = k .before .before in
+    let a = v .before .before .args in
+    let w = words (a .store .now) (a .table .now) in
+    list-refused _ (k .why .given .0 .0) w (a .ask) (a .list .now) (lent-failed w (v .lent-verdict .result) (k .why .given .0 .0) (v .lent-verdict .ensures) (k .why .given .1) _)
 
 same-length : tie.Need-same-length
 same-length c = search needs
 
 returns-2 : tie.Need-returns-2
-returns-2 c =
-    let k = c .before .before in
-    let a = k .before .before .before .before .before .before .args in
-    rw (held w32 (a .method) (search needs), held w32 (a .asked) (search needs)) at (k .ask .ensures)
+returns-2 c = c .before .before .ask .ensures
 
 pub ask-spec : {M : Type 1} → statement M
-ask-spec = tie.close (tie.spec lent-answer-requires is-accepted-requires returns ask-requires same-length returns-2)
+ask-spec =
+    tie.close
+    (tie.spec
+    lent-verdict-requires
+    enum-known-why
+    enum-told
+    ask-requires
+    returns
+    same-length
+    returns-2)

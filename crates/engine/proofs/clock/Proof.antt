@@ -1,21 +1,33 @@
 -- `engine::clock` meets its contract: refused for its buffers, nothing changes; else the call over sound ones.
 -- Assumes nothing.
-use mathlib.Core.Path.{sym, _∙_}
+use mathlib.Core.Path.{subst}
 use borrow.Author.Needs.{needs}
-use borrow.Author.Tests.{not-true, not-false}
 use mir.Syntax.{w32}
+use lib.IntN.{ℤ}
 use Rattle.ints.proofs.Machine.{held}
+use Rattle.records.specs.Words.{words}
+use Rattle.engine.specs.Gives.{Gives}
 use Rattle.engine.specs.Index.{clockOut}
-use Rattle.engine.proofs.CheckLaws.{lent-sound}
-use Rattle.engine.proofs.CallLaws.{gives-lent-refused}
+use Rattle.engine.proofs.CheckLaws.{lent-failed, lent-sound}
+use Rattle.engine.proofs.GivesLaws.{refused}
 use Rattle.engine.proofs.clock.Statement.{statement}
 use Rattle.engine.proofs.clock.Tie as tie
 
-lent-answer-requires : tie.Need-lent-answer-requires
-lent-answer-requires c κs = search needs
+lent-verdict-requires : tie.Need-lent-verdict-requires
+lent-verdict-requires c κs = search needs
 
-is-accepted-requires : tie.Need-is-accepted-requires
-is-accepted-requires c κs = search needs
+enum-known-why : tie.Need-enum-known-why
+enum-known-why c = search needs
+
+enum-told : tie.Need-enum-told
+enum-told c = search needs
+
+clock-requires : tie.Need-clock-requires
+clock-requires c κs =
+    let k = c .before .before in
+    let v = k .before .before in
+    let a = v .before .before .before .args in
+    lent-sound (words (a .store .now) (a .table .now)) (v .lent-verdict .result) (v .lent-verdict .ensures) (k .enum-told .given .1)
 
 same-length : tie.Need-same-length
 same-length c = search needs
@@ -26,18 +38,11 @@ same-length-2 c = search needs
 returns : tie.Need-returns
 unfolding clockOut
 returns c =
-    let o = c .before .before in
-    let a = o .before .before .before .args in
-    gives-lent-refused (a .store .now) (a .table .now) _ _ _ _ (o .lent-answer .result) (o .lent-answer .ensures)
-    (sym (c .before .is-accepted .ensures) ∙ not-true (c .before .is-accepted .result) (c .if1 .taken))
-
-clock-requires : tie.Need-clock-requires
-clock-requires c κs =
-    let e = c .before .before in
-    let o = e .before .before in
-    let a = o .before .before .before .args in
-    lent-sound (a .store .now) (a .table .now) (o .lent-answer .result) (o .lent-answer .ensures)
-    (sym (e .before .is-accepted .ensures) ∙ not-false (e .before .is-accepted .result) (e .if1 .left))
+    let k = c .before in
+    let v = k .before .before in
+    let a = v .before .before .before .args in
+    let w = words (a .store .now) (a .table .now) in
+    refused _ (k .why .given .0 .0) w _ (lent-failed w (v .lent-verdict .result) (k .why .given .0 .0) (v .lent-verdict .ensures) (k .why .given .1) _)
 
 same-length-3 : tie.Need-same-length-3
 same-length-3 c = search needs
@@ -47,9 +52,23 @@ same-length-4 c = search needs
 
 returns-2 : tie.Need-returns-2
 returns-2 c =
-    let k = c .before .before in
-    let a = k .before .before .before .before .before .before .before .before .args in
-    rw (held w32 (a .t) (search needs)) at (k .clock .ensures)
+    let m = c .before .before in
+    let k = m .before .before .before .before in
+    let a = k .before .before .before .before .args in
+    subst (λ (t : ℤ). Gives (clockOut (words (a .store .now) (a .table .now)) t) (m .clock .result) (words (m .clock .last .0) (m .clock .last .1 .0)))
+    (held w32 (a .t) (search needs)) (m .clock .ensures)
 
 pub clock-spec : {M : Type 1} → statement M
-clock-spec = tie.close (tie.spec lent-answer-requires is-accepted-requires same-length same-length-2 returns clock-requires same-length-3 same-length-4 returns-2)
+clock-spec =
+    tie.close
+    (tie.spec
+    lent-verdict-requires
+    enum-known-why
+    enum-told
+    clock-requires
+    same-length
+    same-length-2
+    returns
+    same-length-3
+    same-length-4
+    returns-2)

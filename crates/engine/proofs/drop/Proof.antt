@@ -1,21 +1,19 @@
--- `engine::drop` meets its contract: refused for its buffers, nothing changes; else the call over sound ones.
+-- `engine::drop` meets its contract: a change by its name.
 -- Assumes nothing.
-use mathlib.Core.Path.{sym, _∙_}
+use mathlib.Core.Path.{subst}
 use borrow.Author.Needs.{needs}
-use borrow.Author.Tests.{not-true, not-false}
 use mir.Syntax.{w32}
 use Rattle.ints.proofs.Machine.{held}
-use Rattle.engine.specs.Index.{dropOut}
-use Rattle.engine.proofs.CheckLaws.{lent-sound}
-use Rattle.engine.proofs.CallLaws.{gives-lent-refused}
+use Rattle.records.specs.Words.{words}
+use Rattle.ledger.specs.declared.Change.{Change}
+use Rattle.ledger.specs.declared.Change.the-variants as Change
+use Rattle.engine.specs.Index.{changeOut}
+use Rattle.engine.specs.Gives.{Gives}
 use Rattle.engine.proofs.drop.Statement.{statement}
 use Rattle.engine.proofs.drop.Tie as tie
 
-lent-answer-requires : tie.Need-lent-answer-requires
-lent-answer-requires c κs = search needs
-
-is-accepted-requires : tie.Need-is-accepted-requires
-is-accepted-requires c κs = search needs
+change-requires : tie.Need-change-requires
+change-requires c κs = search needs
 
 same-length : tie.Need-same-length
 same-length c = search needs
@@ -24,32 +22,13 @@ same-length-2 : tie.Need-same-length-2
 same-length-2 c = search needs
 
 returns : tie.Need-returns
-unfolding dropOut
 returns c =
-    let o = c .before .before in
-    let a = o .before .before .before .args in
-    gives-lent-refused (a .store .now) (a .table .now) _ _ _ _ (o .lent-answer .result) (o .lent-answer .ensures)
-    (sym (c .before .is-accepted .ensures) ∙ not-true (c .before .is-accepted .result) (c .if1 .taken))
-
-drop-requires : tie.Need-drop-requires
-drop-requires c κs =
-    let e = c .before .before in
-    let o = e .before .before in
-    let a = o .before .before .before .args in
-    lent-sound (a .store .now) (a .table .now) (o .lent-answer .result) (o .lent-answer .ensures)
-    (sym (e .before .is-accepted .ensures) ∙ not-false (e .before .is-accepted .result) (e .if1 .left))
-
-same-length-3 : tie.Need-same-length-3
-same-length-3 c = search needs
-
-same-length-4 : tie.Need-same-length-4
-same-length-4 c = search needs
-
-returns-2 : tie.Need-returns-2
-returns-2 c =
-    let k = c .before .before in
-    let a = k .before .before .before .before .before .before .before .before .args in
-    rw (held w32 (a .id) (search needs), held w32 (a .t) (search needs)) at (k .drop .ensures)
+    let m = c .before .before in
+    let a = m .before .before .before .args in
+    let id = held w32 (a .id) (search needs) in
+    let t = held w32 (a .t) (search needs) in
+    subst (λ (x : Change). Gives (changeOut (words (a .store .now) (a .table .now)) x) (m .change .result) (words (m .change .last .0) (m .change .last .1 .0)))
+    (λ i. Change.Drop (id i) (t i)) (m .change .ensures)
 
 pub drop-spec : {M : Type 1} → statement M
-drop-spec = tie.close (tie.spec lent-answer-requires is-accepted-requires same-length same-length-2 returns drop-requires same-length-3 same-length-4 returns-2)
+drop-spec = tie.close (tie.spec change-requires same-length same-length-2 returns)

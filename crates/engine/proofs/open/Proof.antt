@@ -1,40 +1,42 @@
--- `engine::open` meets its contract: refused, nothing changes; accepted, an empty store and empty rows.
+-- `engine::open` meets its contract: refused, nothing changes; else an empty store and empty rows.
 -- Assumes nothing.
-use mathlib.Core.Path.{_≡_, sym, ap, _∙_}
+use mathlib.Core.Path.{_≡_, sym, _∙_, subst}
 use borrow.Author.Needs.{needs}
-use borrow.Author.Tests.{not-true, not-false}
 use mir.Syntax.{w32}
-use Rattle.ints.proofs.Machine.{held, tested₁}
-use mathlib.Core.Bool.{true, false}
-use mathlib.Core.List.{[], _∷_}
 use lib.IntN.{ℤ}
-use Rattle.ledger.specs.Refusals.{check, badTime}
-use Rattle.ledger.specs.declared.Answer.the-variants.{Accepted}
-use Rattle.ledger.specs.declared.Refusal.the-variants.{WrongLength, BadTime}
-use Rattle.ledger.specs.Answers.{isAccepted}
-use Rattle.records.specs.Records.{storeOf}
-use Rattle.engine.specs.Index.{openAnswer, openOut, wrongLength}
-use Rattle.engine.proofs.CallLaws.{gives-refused, gives-done, right-lengths}
-use Rattle.engine.proofs.CheckLaws.{accepted-passed}
+use Rattle.ints.proofs.Machine.{held, tested₁}
+use Rattle.records.specs.Words.{words}
+use Rattle.ledger.specs.Refusals.{firstToFail}
+use Rattle.words.specs.Words.{opened}
+use Rattle.engine.specs.Needs.{Done}
+use Rattle.engine.specs.Index.{openChecks, openOut}
+use Rattle.engine.proofs.CheckLaws.{opens-rightly}
+use Rattle.engine.proofs.GivesLaws.{refused, done}
 use Rattle.engine.proofs.open.Statement.{statement}
 use Rattle.engine.proofs.open.Tie as tie
 
-open-answer-requires : tie.Need-open-answer-requires
-open-answer-requires c κs = search needs
+open-verdict-requires : tie.Need-open-verdict-requires
+open-verdict-requires c κs = search needs
 
-is-accepted-requires : tie.Need-is-accepted-requires
-is-accepted-requires c κs = search needs
+enum-known-why : tie.Need-enum-known-why
+enum-known-why c = search needs
 
-answer-is : (c : tie.After-open-answer) → c .open-answer .result ≡ openAnswer (c .before .before .before .args .store .now) (c .before .before .before .args .table .now) (c .before .before .before .args .t)
-answer-is c = let a = c .before .before .before in tested₁ w32 (openAnswer (a .args .store .now) (a .args .table .now)) (c .open-answer .result) (a .args .t) (c .open-answer .ensures) (search needs)
+enum-told : tie.Need-enum-told
+enum-told c = search needs
 
-accepted : (c : tie.Else1) → isAccepted (c .before .before .open-answer .result) ≡ true
-accepted c = sym (c .before .is-accepted .ensures) ∙ not-false (c .before .is-accepted .result) (c .if1 .left)
+verdict-is : (c : tie.After-open-verdict)
+    → c .open-verdict .result
+    ≡ firstToFail (openChecks (words (c .before .before .before .args .store .now) (c .before .before .before .args .table .now)) (c .before .before .before .args .t))
+verdict-is c =
+    let a = c .before .before .before .args in
+    tested₁ w32 (λ (t : ℤ). firstToFail (openChecks (words (a .store .now) (a .table .now)) t)) (c .open-verdict .result) (a .t) (c .open-verdict .ensures) (search needs)
 
-lengths : (c : tie.Else1) → wrongLength (c .before .before .before .before .before .args .store .now) (c .before .before .before .before .before .args .table .now) ≡ false
-lengths c =
-    let a = c .before .before .before .before .before .args in
-    accepted-passed (wrongLength (a .store .now) (a .table .now)) WrongLength (check (badTime (a .t)) BadTime ∷ []) (Accepted 0) (sym (ap isAccepted (answer-is (c .before .before))) ∙ accepted c) .0
+make-open-requires : tie.Need-make-open-requires
+make-open-requires c κs =
+    let k = c .before .before in
+    let v = k .before .before in
+    let a = v .before .before .before .args in
+    opens-rightly (words (a .store .now) (a .table .now)) (v .open-verdict .result) (a .t) (verdict-is v) (k .enum-told .given .1)
 
 same-length : tie.Need-same-length
 same-length c = search needs
@@ -45,15 +47,10 @@ same-length-2 c = search needs
 returns : tie.Need-returns
 unfolding openOut
 returns c =
-    let o = c .before .before in
-    let a = o .before .before .before .args in
-    gives-refused (openAnswer (a .store .now) (a .table .now) (a .t)) (o .open-answer .result) (a .store .now) (a .table .now) _ _ (answer-is o) (sym (c .before .is-accepted .ensures) ∙ not-true (c .before .is-accepted .result) (c .if1 .taken))
-
-open-at-requires : tie.Need-open-at-requires
-open-at-requires c κs = let e = c .before in let a = e .before .before .before .before .before .args in right-lengths (a .store .now) (a .table .now) (lengths e) .0
-
-empty-table-requires : tie.Need-empty-table-requires
-empty-table-requires c κs = let e = c .before .before .before .before in let a = e .before .before .before .before .before .args in right-lengths (a .store .now) (a .table .now) (lengths e) .1
+    let k = c .before in
+    let v = k .before .before in
+    let a = v .before .before .before .args in
+    refused (firstToFail (openChecks (words (a .store .now) (a .table .now)) (a .t))) (k .why .given .0 .0) (words (a .store .now) (a .table .now)) _ (sym (verdict-is v) ∙ k .why .given .1)
 
 same-length-3 : tie.Need-same-length-3
 same-length-3 c = search needs
@@ -64,13 +61,25 @@ same-length-4 c = search needs
 returns-2 : tie.Need-returns-2
 unfolding openOut
 returns-2 c =
-    let t = c .before in
-    let s = t .before .before .before in
-    let e = s .before .before in
-    let o = e .before .before in
-    let a = o .before .before .before .args in
-    gives-done (openAnswer (a .store .now) (a .table .now) (a .t)) (o .open-answer .result) (a .store .now) (a .table .now) _ _ (s .open-at .last .0) (t .empty-table .last .0) (answer-is o) (accepted e)
-    (s .open-at .ensures ∙ ap (λ (x : ℤ). storeOf x []) (held w32 (a .t) (search needs))) (t .empty-table .ensures)
+    let m = c .before .before in
+    let k = m .before .before .before in
+    let v = k .before .before in
+    let a = v .before .before .before .args in
+    let w = words (a .store .now) (a .table .now) in
+    done (firstToFail (openChecks w (a .t))) w (opened (a .t) w) (m .make-open .result) _ (sym (verdict-is v) ∙ k .enum-told .given .1)
+    (subst (λ (t : ℤ). Done (opened t w) (m .make-open .result) (words (m .make-open .last .0) (m .make-open .last .1 .0))) (held w32 (a .t) (search needs)) (m .make-open .ensures))
 
 pub open-spec : {M : Type 1} → statement M
-open-spec = tie.close (tie.spec open-answer-requires is-accepted-requires same-length same-length-2 returns open-at-requires empty-table-requires same-length-3 same-length-4 returns-2)
+open-spec =
+    tie.close
+    (tie.spec
+    open-verdict-requires
+    enum-known-why
+    enum-told
+    make-open-requires
+    same-length
+    same-length-2
+    returns
+    same-length-3
+    same-length-4
+    returns-2)

@@ -23,6 +23,13 @@ Inv-loop store₀ table₀ list₀ line₀ held chunk out₀ used₀ from₀ sto
 abbrev μ-loop : tie.MeasureT-loop
 μ-loop store₀ table₀ list₀ line₀ held chunk out₀ used₀ from₀ store table list line out used from = length chunk - from
 
+-- the turn of the loop that `feed` is called in, and the call of it, from what comes after
+abbrev turn : tie.After-out Inv-loop μ-loop → tie.In-loop Inv-loop μ-loop
+turn c = let s = c .before .before .before in s .before .before .before
+
+abbrev fed : tie.After-struct-known Inv-loop μ-loop → tie.After-feed Inv-loop μ-loop
+fed c = let s = c .before .before .before .before in s .before .before .before .before
+
 large-buffer-requires : tie.Need-large-buffer-requires Inv-loop μ-loop
 large-buffer-requires c κs = search needs
 
@@ -45,14 +52,14 @@ slice-aggregate-feed c = search needs
 
 feed-requires : tie.Need-feed-requires Inv-loop μ-loop
 feed-requires c κs =
-    let l = c .before .before .before .before .before .before .before .loop in
+    let l = turn c .before .loop in
     can-feed (l .inv .0 .ready) (omega (arith, l .inv .1))
 
 abbrev at-loop : tie.After-feed Inv-loop μ-loop → tie.At-loop Inv-loop μ-loop
-at-loop k = k .before .before .before .before .before .before .before .before
+at-loop k = turn (k .before) .before
 
 abbrev start : tie.After-feed Inv-loop μ-loop → tie.Start Inv-loop μ-loop
-start k = k .before .before .before .before .before .before .before .before .before .before .before .before .before
+start k = let s = at-loop k .before in s .before .before .before .before
 
 -- what `feed` leaves, over the rest of the chunk
 feeds :
@@ -95,7 +102,7 @@ further k =
 
 add-from : tie.Need-add-from Inv-loop μ-loop
 add-from c =
-    let k = c .before .before .before .before .before .before .before .before in
+    let k = fed c in
     let w = further k .within in
     let g = start k .good .1 .1 .1 .1 .1 .0 in
     omega (arith, g, w)
@@ -105,7 +112,7 @@ array-share-prefix-out c = search needs
 
 slice-aggregate-write-out : tie.Need-slice-aggregate-write-out Inv-loop μ-loop
 slice-aggregate-write-out c =
-    sym (length-take-le _ _ (omega (arith, feeds (c .before .before .before .before .before .before .before .before .before) .fits)))
+    sym (length-take-le _ _ (omega (arith, feeds (fed (c .before)) .fits)))
 
 write-out-requires : tie.Need-write-out-requires Inv-loop μ-loop
 write-out-requires c κs = search needs
@@ -124,20 +131,20 @@ same-length-4 c = search needs
 
 returns : tie.Need-returns Inv-loop μ-loop
 returns c =
-    let k = c .before .before .before .before .before .before .before .before .before .before .before in
+    let k = fed (c .before .before .before) in
     through-stops (further k)
 
 loop-less : tie.Need-loop-less Inv-loop μ-loop
 loop-less c =
-    let k = c .before .before .before .before .before .before .before .before .before .before .before in
-    let t = k .before .before .before .before .before .before .before .loop-test .taken in
+    let k = fed (c .before .before .before) in
+    let t = turn (k .before) .loop-test .taken in
     let d = length-drop (at-loop k .loop .from) (start k .args .chunk .now) in
     let m = feeds k .goes-on (omega (arith, d, t)) in
     omega (arith, t)
 
 loop-again : tie.Need-loop-again Inv-loop μ-loop
 loop-again c =
-    let k = c .before .before .before .before .before .before .before .before .before .before .before in
+    let k = fed (c .before .before .before) in
     let f = k .feed in
     let l = at-loop k .loop in
     (further k, l .inv .1 ∙ sym (f .kept .1 .1 .1 .1 .1 .1 .0), f .kept .0 ∙ l .inv .2, f .kept .1 .0 ∙ l .inv .3, f .kept .1 .1 .0 ∙ l .inv .4, f .kept .1 .1 .1 .0 ∙ l .inv .5)

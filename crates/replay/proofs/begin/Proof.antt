@@ -17,7 +17,7 @@ same-length-2 c = search needs
 returns : tie.Need-returns
 returns c =
     let k = c .before .before in
-    let a = c .before .before .before .before .before in
+    let a = k .before .before .before in
     begins (a .args .store .now) (a .args .table .now) (a .pre .0) (a .pre .1) (k .«open» .kept .0) (k .«open» .kept .1 .0) (k .«open» .ensures)
 
 pub begin-spec : {M : Type 1} → statement M

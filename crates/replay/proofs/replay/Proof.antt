@@ -6,18 +6,33 @@ use lib.Seq.{length-take-le}
 use Rattle.session.specs.Session.{begun, Stands}
 use Rattle.replay.proofs.ChunkLaws.{begun-stands, begun-ready, replays-stopped, replays-ended}
 use borrow.Author.Needs.{needs}
-use borrow.Author.Needs.{needs}
 use Rattle.replay.proofs.replay.Statement.{statement}
 use Rattle.replay.proofs.replay.Tie as tie
+
+-- the calls, and the entry, from what comes after
+abbrev first : tie.After-begin → tie.Start
+first b = let s = b .before .before .before .before in s .before .before .before
+
+abbrev opened : tie.After-run-arg5 → tie.After-begin
+opened c = let s = c .before .before .before .before in s .before .before .before
+
+abbrev ran : tie.After-struct-known → tie.After-run
+ran c = let s = c .before .before .before in let t = s .before .before .before in t .before .before .before
+
+abbrev tested : tie.After-finish-arg5 → tie.After-struct-known
+tested c = let s = c .before .before .before in s .before .before .before
+
+abbrev finished : tie.After-write-out-arg → tie.After-finish
+finished c = let s = c .before .before .before in let t = s .before .before .before in t .before .before .before
 
 begin-requires : tie.Need-begin-requires
 begin-requires c κs = search needs
 
 run-requires : tie.Need-run-requires
 run-requires c κs =
-    let b = c .before .before .before .before .before .before .before .begin in
-    let a = c .before .before .before .before .before .before .before .before .before .before .before .before .before .before in
-    begun-ready (b .ensures) (a .pre .2) (a .pre .3)
+    let b = opened c in
+    let a = first b in
+    begun-ready (b .begin .ensures) (a .pre .2) (a .pre .3)
 
 same-length : tie.Need-same-length
 same-length c = search needs
@@ -35,10 +50,10 @@ same-length-5 : tie.Need-same-length-5
 same-length-5 c = search needs
 
 abbrev opening : tie.After-run → tie.After-begin
-opening k = k .before .before .before .before .before .before .before .before
+opening k = opened (k .before)
 
 abbrev start : tie.After-run → tie.Start
-start k = k .before .before .before .before .before .before .before .before .before .before .before .before .before .before .before
+start k = first (opening k)
 
 -- the buffers that the run starts with are those of the session before the first byte
 begins : (k : tie.After-run) → Stands begun (opening k .begin .last .0) (opening k .begin .last .1 .0) (start k .args .line .now) 0
@@ -46,19 +61,19 @@ begins k = begun-stands (opening k .begin .ensures) (start k .pre .3)
 
 returns : tie.Need-returns
 returns c =
-    let k = c .before .before .before .before .before .before .before .before .before .before in
+    let k = ran (c .before) in
     replays-stopped (begins k) (k .run .ensures)
 
 finish-requires : tie.Need-finish-requires
 finish-requires c κs =
-    let k = c .before .before .before .before .before .before .before .before .before .before .before .before .before .before .before in
+    let k = ran (tested c) in
     let r = k .run .ensures .ready in
     record {
       at-point = r .at-point;
       list-long = r .list-long;
       line-long = r .line-long;
       few = omega (arith, r .few);
-      room = omega (arith, k .before .before .before .before .before .before .before .before .before .before .before .before .before .before .before .pre .4);
+      room = omega (arith, start k .pre .4);
     }
 
 slice-reshare-prefix-write-out : tie.Need-slice-reshare-prefix-write-out
@@ -66,7 +81,7 @@ slice-reshare-prefix-write-out c = search needs
 
 slice-aggregate-write-out : tie.Need-slice-aggregate-write-out
 slice-aggregate-write-out c =
-    let f = c .before .before .before .before .before .before .before .before .before .finish in
+    let f = finished c .finish in
     sym (length-take-le _ _ (omega (arith, f .ensures .fits)))
 
 write-out-requires : tie.Need-write-out-requires
@@ -92,8 +107,8 @@ same-length-11 c = search needs
 
 returns-2 : tie.Need-returns-2
 returns-2 c =
-    let f = c .before .before .before .before .before .before .before .before .before .before in
-    let k = f .before .before .before .before .before .before .before .before .before .before .before .before .before .before .before .before in
+    let f = finished (c .before) in
+    let k = ran (tested (f .before)) in
     replays-ended (begins k) (k .run .ensures) (f .finish .ensures)
 
 pub replay-spec : {M : Type 1} → statement M

@@ -27,6 +27,13 @@ Inv-loop store₀ table₀ list₀ line₀ chunk₀ left₀ held₀ store table 
 abbrev μ-loop : tie.MeasureT-loop
 μ-loop store₀ table₀ list₀ line₀ chunk₀ left₀ held₀ store table list line chunk left held = left
 
+-- the turn of the loop that `read_once` is called in, and the call of it, from what comes after
+abbrev turn : tie.After-read-once-arg5 Inv-loop μ-loop → tie.In-loop Inv-loop μ-loop
+turn c = let s = c .before .before .before in s .before .before
+
+abbrev once : tie.After-struct-known Inv-loop μ-loop → tie.After-read-once Inv-loop μ-loop
+once c = let s = c .before .before .before in let t = s .before .before .before in t .before .before .before
+
 loop-holds : tie.Need-loop-holds Inv-loop μ-loop
 loop-holds c =
     let a = c .before .before .before in
@@ -34,21 +41,21 @@ loop-holds c =
 
 read-once-requires : tie.Need-read-once-requires Inv-loop μ-loop
 read-once-requires c κs =
-    let r = c .before .before .before .before .before .before .loop .inv .0 .ready in
+    let r = turn c .before .loop .inv .0 .ready in
     record { at-point = r .at-point; store-long = r .store-long; table-long = r .table-long; list-long = r .list-long; line-long = r .line-long; few = omega (arith, r .few) }
 
 abbrev at-loop : tie.After-read-once Inv-loop μ-loop → tie.At-loop Inv-loop μ-loop
-at-loop k = k .before .before .before .before .before .before .before
+at-loop k = turn (k .before) .before
 
 abbrev start : tie.After-read-once Inv-loop μ-loop → tie.Start Inv-loop μ-loop
-start k = k .before .before .before .before .before .before .before .before .before .before .before
+start k = at-loop k .before .before .before .before
 
 -- the bytes taken are of those that are left
 within : (k : tie.After-read-once Inv-loop μ-loop) → k .read-once .result .taken ≤ at-loop k .loop .left
 within k =
     let o = k .read-once in
     let w = turn-within (o .ensures) in
-    omega (arith, w, o .kept .1 .1 .1 .1 .1 .0, k .before .before .before .before .before .before .loop-test .taken)
+    omega (arith, w, o .kept .1 .1 .1 .1 .1 .0, turn (k .before) .loop-test .taken)
 
 -- after one more read
 once-more :
@@ -72,7 +79,7 @@ once-more k =
     rw n at (ran-more (l .inv .0) (o .ensures))
 
 sub-left : tie.Need-sub-left Inv-loop μ-loop
-sub-left c = within (c .before .before .before .before .before .before .before .before .before)
+sub-left c = within (once c)
 
 sub-t21 : tie.Need-sub-t21 Inv-loop μ-loop
 sub-t21 c = search needs
@@ -94,18 +101,18 @@ same-length-5 c = search needs
 
 returns : tie.Need-returns Inv-loop μ-loop
 returns c =
-    let k = c .before .before .before .before .before .before .before .before .before .before .before in
+    let k = once (c .before .before) in
     ran-stops (k .read-once .result .ended) (once-more k)
 
 loop-less : tie.Need-loop-less Inv-loop μ-loop
 loop-less c =
-    let k = c .before .before .before .before .before .before .before .before .before .before .before in
+    let k = once (c .before .before) in
     let f = turn-further (k .read-once .ensures) (c .if1 .left) in
     omega (arith, f, within k)
 
 loop-again : tie.Need-loop-again Inv-loop μ-loop
 loop-again c =
-    let k = c .before .before .before .before .before .before .before .before .before .before .before in
+    let k = once (c .before .before) in
     let o = k .read-once in
     let l = at-loop k .loop in
     (once-more k, omega (arith, l .inv .1), o .kept .0 ∙ l .inv .2, o .kept .1 .0 ∙ l .inv .3, o .kept .1 .1 .0 ∙ l .inv .4, o .kept .1 .1 .1 .0 ∙ l .inv .5, o .kept .1 .1 .1 .1 .1 .0 ∙ l .inv .6)

@@ -47,7 +47,10 @@ is-valid-requires : tie.Need-is-valid-requires Inv-loop μ-loop
 is-valid-requires c κs = search needs
 
 -- what is left, by the test of this row
-turn : (c : tie.After-is-valid Inv-loop μ-loop) → validTable (now (c .before .before .before .before .args .table)) ≡ c .is-valid .result && left (now (c .before .before .before .before .args .table)) (c .before .before .before .loop .k + 4)
+turn :
+    (c : tie.After-is-valid Inv-loop μ-loop)
+    → validTable (now (c .before .before .before .before .args .table))
+    ≡ c .is-valid .result && left (now (c .before .before .before .before .args .table)) (c .before .before .before .loop .k + 4)
 turn c =
     let h = c .before .before .before in
     let t = now (h .before .args .table) in

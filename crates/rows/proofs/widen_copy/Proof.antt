@@ -1,4 +1,5 @@
--- `rows::widen_copy` meets its contract: a walk of its MIR, by hand. A lifetime is made, and the local is lent for it to `widen_in`, of which the proof knows the contract alone; once the lifetime is over, the local is had again at the value that the borrow had last.
+-- `rows::widen_copy` meets its contract: a walk of its MIR, by hand. A lifetime is made, and the local is lent for it to `widen_in`, of which the
+-- proof knows the contract alone; once the lifetime is over, the local is had again at the value that the borrow had last.
 -- Assumes nothing.
 use mathlib.Core.Path.{_≡_, refl, sym, ap, subst}
 use mathlib.Core.List.{[], _∷_, List}
@@ -17,7 +18,8 @@ use prog.Wp.{Heap, Calls, Loops, WpFn, Tables}
 use ghost.Atoms.{Atoms, sem}
 use contract.Monad.{Fun, fact, fact-use}
 use contract.Running.{givenOf, tables, tablesOf}
-use types.Kit.{Given, ‵, raw, _⊛_, some, later, given, _$_, _∵_, !, qed, by, move, keep, drop, use1, use3, split, join, pick, learn, check, fsplit, fjoin, fpick, fpack, feqL, suffices, frame, await, updating, now as at-once, done}
+use types.Kit.{Given, ‵, raw, _⊛_, some, later, given, _$_, _∵_, !, qed, by, move, keep, drop}
+use types.Kit.{use1, use3, split, join, pick, learn, check, fsplit, fjoin, fpick, fpack, feqL, suffices, frame, await, updating, now as at-once, done}
 use types.Tokens.{lft-new, lft-end}
 use types.Run.{look, init, forget, stop, from, load, addr, of-opd, and-then, no-more, assigns, land, returns, enter, alloc1, alloc0, params1, pass1, pass0, free1, free0}
 use types.SemTy.{Body}
@@ -105,24 +107,38 @@ module _ {M : Type 1} (𝓤 : URA M) (H : Heap 𝓤) (A : Atoms 𝓤) (W : Given
   abbrev at-call : ℕ → ℕ → GName → Widen 𝓤 H A at-mem run .Ghost
   at-call α l γ = (((α ∷ [], tt), (fullShare, tt), tt, (Lent l γ, (vx, (vy, tt))), (vptr l 0 ∷ [], (held vx, (held vy, tt)))), tt)
 
-  goes : (α l : ℕ) (γ : GName) → ent 𝓤 (sep 𝓤 (A .lft (α ∷ []) fullShare) (sep 𝓤 (sem 𝓤 H A (own-at α l γ)) (sep 𝓤 (sem 𝓤 H A (i16 .own vx (held vx))) (sem 𝓤 H A (i16 .own vy (held vy)))))) (Widen 𝓤 H A at-mem run .pre (at-call α l γ))
+  goes :
+      (α l : ℕ) (γ : GName)
+      → ent 𝓤 (sep 𝓤 (A .lft (α ∷ []) fullShare) (sep 𝓤 (sem 𝓤 H A (own-at α l γ)) (sep 𝓤 (sem 𝓤 H A (i16 .own vx (held vx))) (sem 𝓤 H A (i16 .own vy (held vy))))))
+      (Widen 𝓤 H A at-mem run .pre (at-call α l γ))
   goes α l γ =
-      qed W (‵ (flft (α ∷ []) fullShare) ∷ ‵ (own-at α l γ) ∷ ‵ (i16 .own vx (held vx)) ∷ ‵ (i16 .own vy (held vy)) ∷ []) ∵ nothing ! $ move ! (4 ∷ 0 ∷ []) $ join ! $ move ! (3 ∷ 0 ∷ []) $ join ! $ move ! (2 ∷ 0 ∷ []) $ join ! $
+      qed W (‵ (flft (α ∷ []) fullShare) ∷ ‵ (own-at α l γ) ∷ ‵ (i16 .own vx (held vx)) ∷ ‵ (i16 .own vy (held vy)) ∷ []) ∵
+      nothing ! $ move ! (4 ∷ 0 ∷ []) $ join ! $ move ! (3 ∷ 0 ∷ []) $ join ! $ move ! (2 ∷ 0 ∷ []) $ join ! $
       nothing ! $ move ! (2 ∷ 0 ∷ []) $ join ! $ join ! $ frame ! $ done !
 
   -- of what it ensures: the row's last value
-  told : (α l : ℕ) (γ : GName) (u : Unit {0}) → ent 𝓤 (ensured 𝓤 H A widen-in.ended (widen-in.clauses 𝓤 H A at-mem run) (α ∷ [], tt) (Lent l γ, (vx, (vy, tt))) tt u) (A .res γ (T.the-row .coded .code r))
+  told :
+      (α l : ℕ) (γ : GName) (u : Unit {0})
+      → ent 𝓤 (ensured 𝓤 H A widen-in.ended (widen-in.clauses 𝓤 H A at-mem run) (α ∷ [], tt) (Lent l γ, (vx, (vy, tt))) tt u)
+      (A .res γ (T.the-row .coded .code r))
   told α l γ u = exE 𝓤 _ (λ ws.
       let L : SProp 𝓤 = sem 𝓤 H A (lasts widen-in.ended (α ∷ [], tt) (Lent l γ, (vx, (vy, tt))) ws) in
       let E : SProp 𝓤 = fact 𝓤 (ws .0 ≡ r) in
       fact-use 𝓤 (ws .0 ≡ r) (snd∗ 𝓤 L E) (λ e.
-      subst (λ (w : Row). ent 𝓤 (sep 𝓤 L E) (A .res γ (T.the-row .coded .code w))) e (via 𝓤 L (fst∗ 𝓤 L E) (fst∗ 𝓤 (A .res γ (T.the-row .coded .code (ws .0))) (sep 𝓤 (emp 𝓤) (sep 𝓤 (emp 𝓤) (emp 𝓤)))))))
+      subst (λ (w : Row). ent 𝓤 (sep 𝓤 L E) (A .res γ (T.the-row .coded .code w)))
+      e (via 𝓤 L (fst∗ 𝓤 L E) (fst∗ 𝓤 (A .res γ (T.the-row .coded .code (ws .0))) (sep 𝓤 (emp 𝓤) (sep 𝓤 (emp 𝓤) (emp 𝓤)))))))
 
-  gives : (α l : ℕ) (γ : GName) (v : Val) → ent 𝓤 (Widen 𝓤 H A at-mem run .post (at-call α l γ) v) (H .⇛ (guard 𝓤 (v ≡ vunit) (sep 𝓤 (A .lft (α ∷ []) fullShare) (A .res γ (T.the-row .coded .code r)))))
+  gives :
+      (α l : ℕ) (γ : GName) (v : Val)
+      → ent 𝓤 (Widen 𝓤 H A at-mem run .post (at-call α l γ) v)
+      (H .⇛ (guard 𝓤 (v ≡ vunit) (sep 𝓤 (A .lft (α ∷ []) fullShare) (A .res γ (T.the-row .coded .code r)))))
   gives α l γ v =
       qed W (raw (Widen 𝓤 H A at-mem run .post (at-call α l γ) v) ∷ []) ∵ updating ! $
-      use1 W (later (some (λ (u : Unit {0}). ((‵ (flft (α ∷ []) fullShare) ⊛ ‵ ftrue) ⊛ ‵ (Nothing .own u (v ∷ []))) ⊛ raw (ensured 𝓤 H A widen-in.ended (widen-in.clauses 𝓤 H A at-mem run) (α ∷ [], tt) (Lent l γ, (vx, (vy, tt))) tt u)))) (id⊢ 𝓤 _) $ await ! tt $ pick ! (λ u.
-      split ! $ move ! (1 ∷ []) $ use1 W (‵ (fres γ (T.the-row .coded .code r))) (told α l γ u) $ move ! (1 ∷ []) $ split ! $ move ! (1 ∷ []) $ feqL ! (λ e. at-once ! $ check ! (ap only e) $ split ! $ keep ! (0 ∷ 2 ∷ []) $ done !))
+      use1 W (later (some (λ (u : Unit {0}). ((‵ (flft (α ∷ []) fullShare) ⊛ ‵ ftrue) ⊛ ‵ (Nothing .own u (v ∷ [])))
+      ⊛ raw (ensured 𝓤 H A widen-in.ended (widen-in.clauses 𝓤 H A at-mem run) (α ∷ [], tt) (Lent l γ, (vx, (vy, tt))) tt u))))
+      (id⊢ 𝓤 _) $ await ! tt $ pick ! (λ u.
+      split ! $ move ! (1 ∷ []) $ use1 W (‵ (fres γ (T.the-row .coded .code r))) (told α l γ u) $
+      move ! (1 ∷ []) $ split ! $ move ! (1 ∷ []) $ feqL ! (λ e. at-once ! $ check ! (ap only e) $ split ! $ keep ! (0 ∷ 2 ∷ []) $ done !))
 
   abbrev at : List Val × (List Val × (List Val × Unit {0}))
   at = (words h, (held vx, (held vy, tt)))
@@ -133,24 +149,32 @@ module _ {M : Type 1} (𝓤 : URA M) (H : Heap 𝓤) (A : Atoms 𝓤) (W : Given
   exits : Is T.the-row r (words r) → ent 𝓤 (sep 𝓤 (sem 𝓤 H A ftrue) (sem 𝓤 H A (owns (T.the-row ∷ i16 ∷ i16 ∷ []) (h, (vx, (vy, tt))) at))) (Post (word r))
   exits is =
       qed W (‵ ftrue ∷ ‵ (owns (T.the-row ∷ i16 ∷ i16 ∷ []) (h, (vx, (vy, tt))) at) ∷ []) ∵
-      suffices ! _ (ends-at 𝓤 H A widen-copy.ended stayed (widen-copy.clauses 𝓤 H A at-mem run) W ((tt, tt, tt, (h, (vx, (vy, tt))), at), tt) (word r) r (tt, (tt, (tt, tt))) (tt, (tt, (tt, tt)))) $ says ! refl $
+      suffices ! _ (ends-at 𝓤 H A widen-copy.ended stayed (widen-copy.clauses 𝓤 H A at-mem run)
+      W ((tt, tt, tt, (h, (vx, (vy, tt))), at), tt) (word r) r (tt, (tt, (tt, tt))) (tt, (tt, (tt, tt)))) $
+      says ! refl $
       owned ! T.the-row (Is T.the-row) ((LL.makes T.the-type T′.the-plain) 𝓤 H A) r _ is $ move ! (1 ∷ 2 ∷ 0 ∷ []) $ done !
 
-  module _ (gh : Is T.the-row h (words h)) (gx : Is i16 vx (held vx)) (gy : Is i16 vy (held vy)) (C : Calls 𝓤 H) (Λ : Loops 𝓤 H) (fm : FmC 𝓤 H (W .laws) C) (known : Triple 𝓤 (C #widen-in) (Widen 𝓤 H A at-mem run)) where
+  module _ (gh : Is T.the-row h (words h)) (gx : Is i16 vx (held vx)) (gy : Is i16 vy (held vy))
+      (C : Calls 𝓤 H) (Λ : Loops 𝓤 H) (fm : FmC 𝓤 H (W .laws) C) (known : Triple 𝓤 (C #widen-in) (Widen 𝓤 H A at-mem run)) where
     walk : ent 𝓤 (onEntry 𝓤 H A widen-copy.signature tt tt (h, (vx, (vy, tt))) at) (WpFn 𝓤 H C Λ code.function (word h ∷ vint w16 (ofZ w16 vx) ∷ vint w16 (ofZ w16 vy) ∷ []) Post)
     walk =
         qed W (‵ ftrue ∷ ‵ (owns (T.the-row ∷ i16 ∷ i16 ∷ []) (h, (vx, (vy, tt))) at) ∷ []) ∵ enter ! C Λ code.function (word h ∷ vint w16 (ofZ w16 vx) ∷ vint w16 (ofZ w16 vy) ∷ []) _ $
         alloc1 ! (λ l₀. alloc1 ! (λ l₁. alloc1 ! (λ l₂. alloc1 ! (λ l₃. alloc1 ! (λ l₄. alloc1 ! (λ l₅. alloc1 ! (λ l₆. alloc0 ! $ params1 ! $
-        pass1 ! (init ! 10 refl (LL.lawful T.the-type T′.the-laws 𝓤 H A W .typed h _ gh .0)) $ pass1 ! (init ! 8 refl (sint-lawful 𝓤 H A W w16 .typed vx _ gx .0)) $ pass1 ! (init ! 6 refl (sint-lawful 𝓤 H A W w16 .typed vy _ gy .0)) $ pass0 ! $
+        pass1 ! (init ! 10 refl (LL.lawful T.the-type T′.the-laws 𝓤 H A W .typed h _ gh .0)) $
+        pass1 ! (init ! 8 refl (sint-lawful 𝓤 H A W w16 .typed vx _ gx .0)) $ pass1 ! (init ! 6 refl (sint-lawful 𝓤 H A W w16 .typed vy _ gy .0)) $ pass0 ! $
         -- [_6; …; _5; …; _4; …; _3; …; _2; …; _1; …; _0; …; true; what the parameters own]
         assigns ! (of-opd ! (load ! (from ! (stop !)) (look ! 10 refl))) (from ! (stop !)) (init ! 4 refl (LL.lawful T.the-type T′.the-laws 𝓤 H A W .typed h _ gh .0)) $
         assigns ! (addr ! (from ! (stop !))) (from ! (stop !)) (init ! 0 refl (tt, tt)) $
         move ! (4 ∷ []) $ use1 W (‵ (mem T.the-row .lies h l₄ 0)) (lies-in 𝓤 H A W h l₄ gh) $ lft-new ! tt (λ α. move ! (1 ∷ []) $
-        use1 W (later (some (λ (γ : GName). ‵ (own-at α l₄ γ) ⊛ ‵ (flent (α ∷ []) (Body (mem T.the-row) l₄ 0 γ))))) (lends-ref 𝓤 H A W T.the-row (named 0) (α ∷ []) h l₄ 0) $ await ! tt $ pick ! (λ γ. split ! $
+        use1 W (later (some (λ (γ : GName). ‵ (own-at α l₄ γ) ⊛ ‵ (flent (α ∷ []) (Body (mem T.the-row) l₄ 0 γ)))))
+        (lends-ref 𝓤 H A W T.the-row (named 0) (α ∷ []) h l₄ 0) $
+        await ! tt $ pick ! (λ γ. split ! $
         owned ! i16 (Is i16) (sint-makes 𝓤 H A W w16) vy _ gy $ owned ! i16 (Is i16) (sint-makes 𝓤 H A W w16) vx _ gx $ join ! $ move ! (3 ∷ 1 ∷ 0 ∷ []) $
         use3 W (raw (Widen 𝓤 H A at-mem run .pre (at-call α l₄ γ))) (goes α l₄ γ) $
         -- [what the call asks; what was lent; _6; …; _5; …; …; _3; …; _2; …; _1; …; _0; …]
-        calls-at ! fm (Widen 𝓤 H A at-mem run) known (at-call α l₄ γ) (and-then ! (load ! (from ! (stop !)) (look ! 2 refl)) (and-then ! (load ! (from ! (stop !)) (look ! 9 refl)) (and-then ! (load ! (from ! (stop !)) (look ! 7 refl)) (no-more !)))) (λ v.
+        calls-at ! fm (Widen 𝓤 H A at-mem run) known (at-call α l₄ γ)
+        (and-then ! (load ! (from ! (stop !)) (look ! 2 refl))
+        (and-then ! (load ! (from ! (stop !)) (look ! 9 refl)) (and-then ! (load ! (from ! (stop !)) (look ! 7 refl)) (no-more !)))) (λ v.
         use1 W (later (given (v ≡ vunit) (‵ (flft (α ∷ []) fullShare) ⊛ ‵ (fres γ (T.the-row .coded .code r))))) (gives α l₄ γ v) $ await ! tt $ learn ! (λ e. split ! $
         land ! (from ! (stop !)) (init ! 5 refl (subst (λ (y : Val). Holds (hasTy tyUnit y) × WT y) (sym e) (tt, tt))) $
         -- the lifetime is over, and the local is had again
@@ -159,19 +183,32 @@ module _ {M : Type 1} (𝓤 : URA M) (H : Heap 𝓤) (A : Atoms 𝓤) (W : Given
         -- [_4; _6; …; _5; …; …; _3; …; _2; …; _1; …; _0; …; true; what the parameters own]
         assigns ! (of-opd ! (load ! (from ! (stop !)) (look ! 0 refl))) (from ! (stop !)) (init ! 12 refl (LL.lawful T.the-type T′.the-laws 𝓤 H A W .typed r _ is .0)) $
         returns ! (look ! 12 refl) $ forget ! 0 refl $ forget ! 1 refl $ forget ! 3 refl $ forget ! 6 refl $ forget ! 8 refl $ forget ! 10 refl $ forget ! 12 refl $
-        move ! (12 ∷ 13 ∷ []) $ free1 ! $ move ! (10 ∷ 11 ∷ []) $ free1 ! $ move ! (8 ∷ 9 ∷ []) $ free1 ! $ move ! (6 ∷ 7 ∷ []) $ free1 ! $ move ! (0 ∷ 5 ∷ []) $ free1 ! $ move ! (2 ∷ 3 ∷ []) $ free1 ! $ free1 ! $ free0 ! $
+        move ! (12 ∷ 13 ∷ []) $ free1 ! $ move ! (10 ∷ 11 ∷ []) $ free1 ! $ move ! (8 ∷ 9 ∷ []) $ free1 ! $ move ! (6 ∷ 7 ∷ []) $ free1 ! $ move ! (0 ∷ 5 ∷ []) $
+        free1 ! $ move ! (2 ∷ 3 ∷ []) $ free1 ! $ free1 ! $ free0 ! $
         by ! (exits is)))))))))))))
 
 module _ {M : Type 1} (𝓤 : URA M) (H : Heap 𝓤) (A : Atoms 𝓤) (W : Given 𝓤 H A) (at-mem : Memory → SProp 𝓤) (run : Routine → Fun 𝓤) where
-  walks : (C : Calls 𝓤 H) (Λ : Loops 𝓤 H) → FmC 𝓤 H (W .laws) C → Triple 𝓤 (C #widen-in) (Widen 𝓤 H A at-mem run) → Walks 𝓤 H A widen-copy.ended stayed (WpFn 𝓤 H C Λ code.function) (widen-copy.clauses 𝓤 H A at-mem run)
-  walks C Λ fm known = walked 𝓤 H A widen-copy.ended stayed (widen-copy.clauses 𝓤 H A at-mem run) (WpFn 𝓤 H C Λ code.function) (λ κs. (words, (sint-vals w16, (sint-vals w16, tt)))) (λ κs. (LL.tells T.the-type T′.the-laws, (sint-tells w16, (sint-tells w16, tt))))
+  walks :
+      (C : Calls 𝓤 H) (Λ : Loops 𝓤 H)
+      → FmC 𝓤 H (W .laws) C
+      → Triple 𝓤 (C #widen-in) (Widen 𝓤 H A at-mem run)
+      → Walks 𝓤 H A widen-copy.ended stayed (WpFn 𝓤 H C Λ code.function) (widen-copy.clauses 𝓤 H A at-mem run)
+  walks C Λ fm known = walked 𝓤 H A widen-copy.ended stayed (widen-copy.clauses 𝓤 H A at-mem run) (WpFn 𝓤 H C Λ code.function)
+      (λ κs. (words, (sint-vals w16, (sint-vals w16, tt))))
+      (λ κs. (LL.tells T.the-type T′.the-laws, (sint-tells w16, (sint-tells w16, tt))))
       (λ κs qs bounds a g are. via 𝓤 _ (fst∗ 𝓤 _ (emp 𝓤)) (walk 𝓤 H A W at-mem run (a .0) (a .1 .0) (a .1 .1 .0) (are .0) (are .1 .0) (are .1 .1 .0) C Λ fm known))
 
   all-go : AllGo 𝓤 H A W 0 (widen-copy.signature .params) (widen-copy.ended .kept) stayed
   all-go = (goes-none 𝓤 H A W 0 (λ _. T.the-row) yes (λ κs x f. refl), (goes-none 𝓤 H A W 0 (λ _. i16) yes (λ κs x f. refl), (goes-none 𝓤 H A W 0 (λ _. i16) yes (λ κs x f. refl), tt)))
 
-meets : {M : Type 1} (𝓤 : URA M) (H : Heap 𝓤) (A : Atoms 𝓤) (W : Given 𝓤 H A) (at-mem : Memory → SProp 𝓤) (run : Routine → Fun 𝓤) (𝓣 : Tables 𝓤 H) → Triple 𝓤 (𝓣 .C #widen-in) (Widen 𝓤 H A at-mem run) → Meets 𝓤 H A widen-copy.signature (WpFn 𝓤 H (𝓣 .C) (𝓣 .Λ) code.function) (widen-copy.spec 𝓤 H A at-mem run)
-meets 𝓤 H A W at-mem run 𝓣 known = walk-meets 𝓤 H A widen-copy.ended stayed W (all-go 𝓤 H A W at-mem run) (widen-copy.clauses 𝓤 H A at-mem run) (WpFn 𝓤 H (𝓣 .C) (𝓣 .Λ) code.function) (WpFn-mono 𝓤 H (W .laws) 𝓣 code.function) (walks 𝓤 H A W at-mem run (𝓣 .C) (𝓣 .Λ) (fmOf 𝓤 H (W .laws) 𝓣) known)
+meets :
+    {M : Type 1} (𝓤 : URA M) (H : Heap 𝓤) (A : Atoms 𝓤) (W : Given 𝓤 H A) (at-mem : Memory → SProp 𝓤) (run : Routine → Fun 𝓤) (𝓣 : Tables 𝓤 H)
+    → Triple 𝓤 (𝓣 .C #widen-in) (Widen 𝓤 H A at-mem run)
+    → Meets 𝓤 H A widen-copy.signature (WpFn 𝓤 H (𝓣 .C) (𝓣 .Λ) code.function) (widen-copy.spec 𝓤 H A at-mem run)
+meets 𝓤 H A W at-mem run 𝓣 known = walk-meets 𝓤 H A widen-copy.ended stayed W (all-go 𝓤 H A W at-mem run)
+    (widen-copy.clauses 𝓤 H A at-mem run) (WpFn 𝓤 H (𝓣 .C) (𝓣 .Λ) code.function)
+    (WpFn-mono 𝓤 H (W .laws) 𝓣 code.function)
+    (walks 𝓤 H A W at-mem run (𝓣 .C) (𝓣 .Λ) (fmOf 𝓤 H (W .laws) 𝓣) known)
 
 pub widen-copy-spec : {M : Type 1} → stated.statement M
 unfolding code.routine tablesOf

@@ -1,4 +1,5 @@
--- `rows::widen_in` meets its contract: a walk of its MIR, by hand. The borrow is opened, the row is copied out and passed to `Row::widen`, of which the proof knows the contract alone, and what that gives is written back; then the borrow is closed at it.
+-- `rows::widen_in` meets its contract: a walk of its MIR, by hand. The borrow is opened, the row is copied out and passed to `Row::widen`, of which
+-- the proof knows the contract alone, and what that gives is written back; then the borrow is closed at it.
 -- Assumes nothing.
 use mathlib.Core.Path.{_≡_, refl}
 use mathlib.Core.List.{[], _∷_, List}
@@ -74,7 +75,8 @@ module _ {M : Type 1} (𝓤 : URA M) (H : Heap 𝓤) (A : Atoms 𝓤) (at-mem : 
   widened-of : (h : Row) (vx vy : ℤ) (r : Row) → ent 𝓤 (ensured 𝓤 H A widen.ended (widen.clauses 𝓤 H A at-mem run) tt (h, (vx, (vy, tt))) tt r) (fact 𝓤 (r ≡ widened h vx vy))
   widened-of h vx vy r = exE 𝓤 _ (λ ws. snd∗ 𝓤 (sem 𝓤 H A (lasts widen.ended tt (h, (vx, (vy, tt))) ws)) (fact 𝓤 (r ≡ widened h vx vy)))
 
-module _ {M : Type 1} (𝓤 : URA M) (H : Heap 𝓤) (A : Atoms 𝓤) (W : Given 𝓤 H A) (at-mem : Memory → SProp 𝓤) (run : Routine → Fun 𝓤) (κ : Lft) (q : Share) (b o : ℕ) (γ : GName) (h : Row) (vx vy : ℤ) where
+module _ {M : Type 1} (𝓤 : URA M) (H : Heap 𝓤) (A : Atoms 𝓤) (W : Given 𝓤 H A) (at-mem : Memory → SProp 𝓤) (run : Routine → Fun 𝓤)
+    (κ : Lft) (q : Share) (b o : ℕ) (γ : GName) (h : Row) (vx vy : ℤ) where
   abbrev x : Arg
   x = (record { ptr = (b, o); name = γ; now = h }, (vx, (vy, tt)))
 
@@ -90,7 +92,8 @@ module _ {M : Type 1} (𝓤 : URA M) (H : Heap 𝓤) (A : Atoms 𝓤) (W : Given
 
   goes-widen : ent 𝓤 (sep 𝓤 (sem 𝓤 H A (T.the-row .own h (words h))) (sep 𝓤 (sem 𝓤 H A (i16 .own vx (held vx))) (sem 𝓤 H A (i16 .own vy (held vy))))) (Widen 𝓤 H A at-mem run .pre to-widen)
   goes-widen =
-      qed W (‵ (T.the-row .own h (words h)) ∷ ‵ (i16 .own vx (held vx)) ∷ ‵ (i16 .own vy (held vy)) ∷ []) ∵ nothing ! $ move ! (3 ∷ 0 ∷ []) $ join ! $ move ! (2 ∷ 0 ∷ []) $ join ! $ move ! (1 ∷ 0 ∷ []) $ join ! $
+      qed W (‵ (T.the-row .own h (words h)) ∷ ‵ (i16 .own vx (held vx)) ∷ ‵ (i16 .own vy (held vy)) ∷ []) ∵
+      nothing ! $ move ! (3 ∷ 0 ∷ []) $ join ! $ move ! (2 ∷ 0 ∷ []) $ join ! $ move ! (1 ∷ 0 ∷ []) $ join ! $
       nothing ! $ join ! $ frame ! $ done !
 
   module _ (gx : Is i16 vx (held vx)) (gy : Is i16 vy (held vy)) where
@@ -112,14 +115,20 @@ module _ {M : Type 1} (𝓤 : URA M) (H : Heap 𝓤) (A : Atoms 𝓤) (W : Given
         enter ! C Λ code.function (vptr b o ∷ vint w16 (ofZ w16 vx) ∷ vint w16 (ofZ w16 vy) ∷ []) _ $
         alloc1 ! (λ l₀. alloc1 ! (λ l₁. alloc1 ! (λ l₂. alloc1 ! (λ l₃. alloc1 ! (λ l₄. alloc1 ! (λ l₅. alloc0 ! $ params1 ! $
         pass1 ! (init ! 8 refl (tt, tt)) $ pass1 ! (init ! 6 refl (sint-lawful 𝓤 H A W w16 .typed vx _ gx .0)) $ pass1 ! (init ! 4 refl (sint-lawful 𝓤 H A W w16 .typed vy _ gy .0)) $ pass0 ! $
-        move ! (12 ∷ 13 ∷ 14 ∷ []) $ opens ! tt (T.the-row) {h = h} b o (λ vs. spelt ! (T.the-row) (Is (T.the-row)) (shows 𝓤 H A (T.the-row)) words (LL.tells T.the-type T′.the-laws) fullShare h vs b o $
+        move ! (12 ∷ 13 ∷ 14 ∷ []) $ opens ! tt (T.the-row) {h = h} b o (λ vs.
+        spelt ! (T.the-row) (Is (T.the-row)) (shows 𝓤 H A (T.the-row)) words (LL.tells T.the-type T′.the-laws) fullShare h vs b o $
         move ! (1 ∷ []) $ peeks ! T.the-row (Is T.the-row) (shows 𝓤 H A T.the-row) h (words h) (λ was. move ! (1 ∷ 0 ∷ []) $
         -- [the row's cell; what a Row owns; the open borrow; obs; auth; _5; …; _4; …; _3; …; _2; …; _1; …; room for _0; …]
         assigns ! (of-opd ! (load ! (from ! (hop ! (look ! 13 refl) (stop !))) (look-raw ! 0 refl))) (from ! (stop !)) (init ! 5 refl (LL.lawful T.the-type T′.the-laws 𝓤 H A W .typed h _ was .0)) $
-        owned ! i16 (Is i16) (sint-makes 𝓤 H A W w16) vy _ gy $ owned ! i16 (Is i16) (sint-makes 𝓤 H A W w16) vx _ gx $ owned ! (T.the-row) (Is (T.the-row)) ((LL.makes T.the-type T′.the-plain) 𝓤 H A) h _ was $
+        owned ! i16 (Is i16) (sint-makes 𝓤 H A W w16) vy _ gy $ owned ! i16 (Is i16) (sint-makes 𝓤 H A W w16) vx _ gx $
+        owned ! (T.the-row) (Is (T.the-row)) ((LL.makes T.the-type T′.the-plain) 𝓤 H A) h _ was $
         use3 W (raw (Widen 𝓤 H A at-mem run .pre to-widen)) goes-widen $
-        calls-at ! fm (Widen 𝓤 H A at-mem run) known to-widen (and-then ! (load ! (from ! (stop !)) (look ! 6 refl)) (and-then ! (load ! (from ! (stop !)) (look ! 12 refl)) (and-then ! (load ! (from ! (stop !)) (look ! 10 refl)) (no-more !)))) (λ v.
-        use1 W (later (some (λ (r : Row). (‵ ftrue ⊛ ‵ (T.the-row .own r (v ∷ []))) ⊛ raw (ensured 𝓤 H A widen.ended (widen.clauses 𝓤 H A at-mem run) tt (h, (vx, (vy, tt))) tt r)))) (id⊢ 𝓤 _) $ await ! tt $ pick ! (λ r.
+        calls-at ! fm (Widen 𝓤 H A at-mem run) known to-widen
+        (and-then ! (load ! (from ! (stop !)) (look ! 6 refl))
+        (and-then ! (load ! (from ! (stop !)) (look ! 12 refl)) (and-then ! (load ! (from ! (stop !)) (look ! 10 refl)) (no-more !)))) (λ v.
+        use1 W (later (some (λ (r : Row). (‵ ftrue ⊛ ‵ (T.the-row .own r (v ∷ [])))
+        ⊛ raw (ensured 𝓤 H A widen.ended (widen.clauses 𝓤 H A at-mem run) tt (h, (vx, (vy, tt))) tt r))))
+        (id⊢ 𝓤 _) $ await ! tt $ pick ! (λ r.
         split ! $ move ! (1 ∷ []) $ use1 W (raw (fact 𝓤 (r ≡ widened h vx vy))) (widened-of 𝓤 H A at-mem run h vx vy r) $ heard ! (r ≡ widened h vx vy) (λ e. split ! $ drop ! $
         peeks ! T.the-row (Is T.the-row) (shows 𝓤 H A T.the-row) r (v ∷ []) (λ is.
         land ! (from ! (stop !)) (init ! 8 refl (LL.lawful T.the-type T′.the-laws 𝓤 H A W .typed r _ is .0)) $
@@ -129,19 +138,32 @@ module _ {M : Type 1} (𝓤 : URA M) (H : Heap 𝓤) (A : Atoms 𝓤) (W : Given
         move ! (1 ∷ 0 ∷ 3 ∷ 4 ∷ 5 ∷ []) $ closes ! tt (T.the-row) r (v ∷ []) b o $ move ! (3 ∷ []) $ drop ! $
         -- [obs; the borrow; the token; _5; …; _4; …; _3; …; _2; …; _1; …; _0; …]
         returns ! (look ! 13 refl) $ forget ! 3 refl $ forget ! 5 refl $ forget ! 7 refl $ forget ! 9 refl $ forget ! 11 refl $ forget ! 13 refl $
-        move ! (13 ∷ 14 ∷ []) $ free1 ! $ move ! (11 ∷ 12 ∷ []) $ free1 ! $ move ! (9 ∷ 10 ∷ []) $ free1 ! $ move ! (7 ∷ 8 ∷ []) $ free1 ! $ move ! (5 ∷ 6 ∷ []) $ free1 ! $ move ! (3 ∷ 4 ∷ []) $ free1 ! $ free0 ! $
+        move ! (13 ∷ 14 ∷ []) $ free1 ! $ move ! (11 ∷ 12 ∷ []) $ free1 ! $ move ! (9 ∷ 10 ∷ []) $ free1 ! $ move ! (7 ∷ 8 ∷ []) $ free1 ! $ move ! (5 ∷ 6 ∷ []) $
+        free1 ! $ move ! (3 ∷ 4 ∷ []) $ free1 ! $ free0 ! $
         keep ! (0 ∷ 1 ∷ 2 ∷ []) $ by ! (exits gx gy r e)))))))))))))))
 
 module _ {M : Type 1} (𝓤 : URA M) (H : Heap 𝓤) (A : Atoms 𝓤) (W : Given 𝓤 H A) (at-mem : Memory → SProp 𝓤) (run : Routine → Fun 𝓤) where
-  walks : (C : Calls 𝓤 H) (Λ : Loops 𝓤 H) → FmC 𝓤 H (W .laws) C → Triple 𝓤 (C #widen) (Widen 𝓤 H A at-mem run) → Walks 𝓤 H A widen-in.ended stayed (WpFn 𝓤 H C Λ code.function) (widen-in.clauses 𝓤 H A at-mem run)
-  walks C Λ fm known = walked 𝓤 H A widen-in.ended stayed (widen-in.clauses 𝓤 H A at-mem run) (WpFn 𝓤 H C Λ code.function) (λ κs. (ptr-vals, (sint-vals w16, (sint-vals w16, tt)))) (λ κs. (mut-tells (named 0) (κs .0) (T.the-row), (sint-tells w16, (sint-tells w16, tt))))
+  walks :
+      (C : Calls 𝓤 H) (Λ : Loops 𝓤 H)
+      → FmC 𝓤 H (W .laws) C
+      → Triple 𝓤 (C #widen) (Widen 𝓤 H A at-mem run)
+      → Walks 𝓤 H A widen-in.ended stayed (WpFn 𝓤 H C Λ code.function) (widen-in.clauses 𝓤 H A at-mem run)
+  walks C Λ fm known = walked 𝓤 H A widen-in.ended stayed (widen-in.clauses 𝓤 H A at-mem run) (WpFn 𝓤 H C Λ code.function)
+      (λ κs. (ptr-vals, (sint-vals w16, (sint-vals w16, tt))))
+      (λ κs. (mut-tells (named 0) (κs .0) (T.the-row), (sint-tells w16, (sint-tells w16, tt))))
       (λ κs qs bounds a _ _. via 𝓤 _ (fst∗ 𝓤 _ (emp 𝓤)) (walk 𝓤 H A W at-mem run (κs .0) (qs .0) (a .0 .ptr .0) (a .0 .ptr .1) (a .0 .name) (a .0 .now) (a .1 .0) (a .1 .1 .0) C Λ fm known))
 
   goes : AllGo 𝓤 H A W 1 (widen-in.signature .params) (widen-in.ended .kept) stayed
   goes = (goes-ref 𝓤 H A W 1 0 tt (plain (λ _. T.the-row)), (goes-none 𝓤 H A W 1 (λ _. i16) yes (λ κs x f. refl), (goes-none 𝓤 H A W 1 (λ _. i16) yes (λ κs x f. refl), tt)))
 
-meets : {M : Type 1} (𝓤 : URA M) (H : Heap 𝓤) (A : Atoms 𝓤) (W : Given 𝓤 H A) (at-mem : Memory → SProp 𝓤) (run : Routine → Fun 𝓤) (𝓣 : Tables 𝓤 H) → Triple 𝓤 (𝓣 .C #widen) (Widen 𝓤 H A at-mem run) → Meets 𝓤 H A widen-in.signature (WpFn 𝓤 H (𝓣 .C) (𝓣 .Λ) code.function) (widen-in.spec 𝓤 H A at-mem run)
-meets 𝓤 H A W at-mem run 𝓣 known = walk-meets 𝓤 H A widen-in.ended stayed W (goes 𝓤 H A W at-mem run) (widen-in.clauses 𝓤 H A at-mem run) (WpFn 𝓤 H (𝓣 .C) (𝓣 .Λ) code.function) (WpFn-mono 𝓤 H (W .laws) 𝓣 code.function) (walks 𝓤 H A W at-mem run (𝓣 .C) (𝓣 .Λ) (fmOf 𝓤 H (W .laws) 𝓣) known)
+meets :
+    {M : Type 1} (𝓤 : URA M) (H : Heap 𝓤) (A : Atoms 𝓤) (W : Given 𝓤 H A) (at-mem : Memory → SProp 𝓤) (run : Routine → Fun 𝓤) (𝓣 : Tables 𝓤 H)
+    → Triple 𝓤 (𝓣 .C #widen) (Widen 𝓤 H A at-mem run)
+    → Meets 𝓤 H A widen-in.signature (WpFn 𝓤 H (𝓣 .C) (𝓣 .Λ) code.function) (widen-in.spec 𝓤 H A at-mem run)
+meets 𝓤 H A W at-mem run 𝓣 known = walk-meets 𝓤 H A widen-in.ended stayed W (goes 𝓤 H A W at-mem run)
+    (widen-in.clauses 𝓤 H A at-mem run) (WpFn 𝓤 H (𝓣 .C) (𝓣 .Λ) code.function)
+    (WpFn-mono 𝓤 H (W .laws) 𝓣 code.function)
+    (walks 𝓤 H A W at-mem run (𝓣 .C) (𝓣 .Λ) (fmOf 𝓤 H (W .laws) 𝓣) known)
 
 pub widen-in-spec : {M : Type 1} → stated.statement M
 unfolding code.routine tablesOf

@@ -1,56 +1,68 @@
--- `engine::sound::ask` meets its contract: refused, the list stays; else the ask whose checks are passed.
+-- `engine::sound::ask` meets its contract: refused, the list stays; else the ids found.
 -- Assumes nothing.
-use mathlib.Core.Path.{_≡_, sym, _∙_}
+use mathlib.Core.Path.{sym, _∙_, subst}
 use borrow.Author.Needs.{needs}
-use borrow.Author.Tests.{not-true, not-false}
-use mir.Syntax.{w32}
-use Rattle.ints.proofs.Machine.{held, tested₂}
-use lib.IntN.{ℤ}
-use mathlib.Core.List.{[], _∷_}
-use Rattle.ledger.specs.Refusals.{check, firstToFail, badAskTime, badAsk}
-use Rattle.ledger.specs.declared.Answer.the-variants.{Accepted}
-use Rattle.ledger.specs.declared.Refusal.the-variants.{BadTime, BadNumber}
-use Rattle.records.specs.Records.{nowOf}
-use Rattle.engine.proofs.CheckLaws.{sound-is-store, sound-passed}
-use Rattle.engine.proofs.CallLaws.{ask-refused, ask-passed}
+use lib.ListN.{length}
+use Rattle.asking.specs.Asking.{idsNeeded, askSettled, GivesList}
+use Rattle.records.specs.Words.{words, timeIn}
+use Rattle.ledger.specs.declared.Verdict.{Verdict}
+use Rattle.engine.specs.Index.{askOut}
+use Rattle.engine.proofs.CheckLaws.{sound-store, sound-lent, ask-passed, ask-failed, room-left}
+use Rattle.engine.proofs.GivesLaws.{list-refused}
 use Rattle.engine.proofs.sound.ask.Statement.{statement}
 use Rattle.engine.proofs.sound.ask.Tie as tie
 
-ask-refusal-requires : tie.Need-ask-refusal-requires
-ask-refusal-requires c κs = let b = c .before in sound-is-store (b .args .store .now) (b .args .table .now) (b .pre)
+ask-verdict-requires : tie.Need-ask-verdict-requires
+ask-verdict-requires c κs = let b = c .before in sound-store (words (b .args .store .now) (b .args .table .now)) (b .pre)
 
-is-accepted-requires : tie.Need-is-accepted-requires
-is-accepted-requires c κs = search needs
+enum-known-why : tie.Need-enum-known-why
+enum-known-why c = search needs
 
-why-is : (c : tie.After-ask-refusal) → c .ask-refusal .result ≡ firstToFail (check (badAskTime (nowOf (c .before .before .args .store .now)) (c .before .before .args .asked)) BadTime ∷ check (badAsk (c .before .before .args .method) (c .before .before .args .q)) BadNumber ∷ []) (Accepted 0)
-why-is c =
-    let a = c .before .before .args in
-    tested₂ w32 (λ (m t : ℤ). firstToFail (check (badAskTime (nowOf (a .store .now)) t) BadTime ∷ check (badAsk m (a .q)) BadNumber ∷ []) (Accepted 0)) (c .ask-refusal .result) (a .method) (a .asked) (c .ask-refusal .ensures) (search needs) (search needs)
-
-returns : tie.Need-returns
-returns c =
-    let o = c .before .before in
-    let a = o .before .before .args in
-    ask-refused (a .store .now) (a .table .now) (a .method) (a .asked) (a .q) (a .list .now) (o .ask-refusal .result)
-    (sound-passed (a .store .now) (a .table .now) (o .before .before .pre) _ _ (o .ask-refusal .result) (why-is o))
-    (sym (c .before .is-accepted .ensures) ∙ not-true (c .before .is-accepted .result) (c .if1 .taken))
+enum-told : tie.Need-enum-told
+enum-told c = search needs
 
 ask-sound-requires : tie.Need-ask-sound-requires
 ask-sound-requires c κs =
-    let e = c .before in
-    let o = e .before .before in
-    let a = o .before .before .args in
-    rw (held w32 (a .method) (search needs), held w32 (a .asked) (search needs))
-    (ask-passed (a .store .now) (a .table .now) (o .before .before .pre) (a .method) (a .asked) (a .q) (o .ask-refusal .result) (why-is o) (sym (e .before .is-accepted .ensures) ∙ not-false (e .before .is-accepted .result) (e .if1 .left)))
+    let k = c .before in
+    let v = k .before .before in
+    let b = v .before .before in
+    ask-passed (words (b .args .store .now) (b .args .table .now)) (b .pre) (b .args .ask) (sym (v .ask-verdict .ensures) ∙ k .enum-told .given .1)
+
+returns : tie.Need-returns
+unfolding askOut
+returns c =
+    let k = c .before in
+    let v = k .before .before in
+    let b = v .before .before in
+    let a = b .args in
+    let w = words (a .store .now) (a .table .now) in
+    let failed = ask-failed (timeIn w) (a .ask) (length (a .list .now)) (idsNeeded w (a .ask)) (k .why .given .0 .0) (sym (v .ask-verdict .ensures) ∙ k .why .given .1) in
+    list-refused _ (k .why .given .0 .0) w (a .ask) (a .list .now) (sym (sound-lent w (b .pre) _) ∙ failed)
 
 same-length : tie.Need-same-length
 same-length c = search needs
 
 returns-2 : tie.Need-returns-2
+unfolding askOut
 returns-2 c =
-    let k = c .before .before in
-    let a = k .before .before .before .before .before .before .args in
-    rw (held w32 (a .method) (search needs), held w32 (a .asked) (search needs)) at (k .ask-sound .ensures)
+    let m = c .before .before in
+    let k = m .before .before in
+    let v = k .before .before in
+    let b = v .before .before in
+    let a = b .args in
+    let w = words (a .store .now) (a .table .now) in
+    let can = ask-passed w (b .pre) (a .ask) (sym (v .ask-verdict .ensures) ∙ k .enum-told .given .1) in
+    let same = room-left (timeIn w) (a .ask) (length (a .list .now)) (idsNeeded w (a .ask)) (can .good-time) (can .good-numbers) ∙ sound-lent w (b .pre) _ in
+    subst (λ (x : Verdict). GivesList (askSettled x w (a .ask) (a .list .now)) (m .ask-sound .result) (m .ask-sound .last .1 .1 .0)) same (m .ask-sound .ensures)
 
 pub ask-spec : {M : Type 1} → statement M
-ask-spec = tie.close (tie.spec ask-refusal-requires is-accepted-requires returns ask-sound-requires same-length returns-2)
+ask-spec =
+    tie.close
+    (tie.spec
+    ask-verdict-requires
+    enum-known-why
+    enum-told
+    ask-sound-requires
+    returns
+    same-length
+    returns-2)

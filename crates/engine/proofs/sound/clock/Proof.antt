@@ -1,43 +1,47 @@
 -- `engine::sound::clock` meets its contract: refused, nothing changes; accepted, the clock step.
 -- Assumes nothing.
-use mathlib.Core.Path.{_≡_, sym, ap, _∙_}
+use mathlib.Core.Path.{_≡_, sym, _∙_, subst}
 use borrow.Author.Needs.{needs}
-use borrow.Author.Tests.{not-true, not-false}
 use mir.Syntax.{w32}
-use Rattle.ints.proofs.Machine.{held, tested₁}
-use mathlib.Core.Bool.{true}
-use mathlib.Core.List.{[]}
 use lib.IntN.{ℤ}
-use lib.ListN.{length}
-use Rattle.ledger.specs.Refusals.{firstToFail}
-use Rattle.ledger.specs.declared.Answer.the-variants.{Accepted}
-use Rattle.ledger.specs.Answers.{isAccepted}
-use Rattle.records.specs.Records.{recordsOf}
-use Rattle.engine.specs.Index.{lentChecks, clockChecks, clockOut}
-use Rattle.engine.specs.Gives.{CanStep, Stepped}
-use Rattle.engine.proofs.CheckLaws.{sound-is-store, sound-passed}
-use Rattle.engine.proofs.CallLaws.{gives-refused, gives-done, can-step}
+use Rattle.ints.proofs.Machine.{held, tested₁}
+use Rattle.records.specs.Words.{words}
+use mathlib.Core.List.{[]}
+use Rattle.records.specs.Records.{nowOf}
+use Rattle.words.specs.Words.{stepped}
+use Rattle.ledger.specs.Refusals.{firstToFail, badStepTime, clockChecks}
+use Rattle.ledger.specs.declared.Refusal.the-variants.{BadTime}
+use Rattle.ledger.proofs.VerdictLaws.{first-passed}
+use Rattle.engine.specs.Needs.{Done}
+use Rattle.engine.specs.Index.{clockOut}
+use Rattle.engine.proofs.CheckLaws.{sound-store, sound-lent, can-step}
+use Rattle.engine.proofs.GivesLaws.{refused, done}
 use Rattle.engine.proofs.sound.clock.Statement.{statement}
 use Rattle.engine.proofs.sound.clock.Tie as tie
 
-clock-answer-requires : tie.Need-clock-answer-requires
-clock-answer-requires c κs = let b = c .before in sound-is-store (b .args .store .now) (b .args .table .now) (b .pre)
+clock-verdict-requires : tie.Need-clock-verdict-requires
+clock-verdict-requires c κs = let b = c .before in sound-store (words (b .args .store .now) (b .args .table .now)) (b .pre)
 
-is-accepted-requires : tie.Need-is-accepted-requires
-is-accepted-requires c κs = search needs
+enum-known-why : tie.Need-enum-known-why
+enum-known-why c = search needs
 
-answer-is : (c : tie.After-clock-answer) → c .clock-answer .result ≡ firstToFail (clockChecks (c .before .before .args .store .now) (c .before .before .args .t)) (Accepted (length (recordsOf (c .before .before .args .store .now))))
-answer-is c =
+enum-told : tie.Need-enum-told
+enum-told c = search needs
+
+verdict-is : (c : tie.After-clock-verdict) → c .clock-verdict .result ≡ firstToFail (clockChecks (nowOf (c .before .before .args .store .now)) (c .before .before .args .t))
+verdict-is c =
     let a = c .before .before .args in
-    tested₁ w32 (λ (t : ℤ). firstToFail (clockChecks (a .store .now) t) (Accepted (length (recordsOf (a .store .now))))) (c .clock-answer .result) (a .t) (c .clock-answer .ensures) (search needs)
+    tested₁ w32 (λ (t : ℤ). firstToFail (clockChecks (nowOf (a .store .now)) t)) (c .clock-verdict .result) (a .t) (c .clock-verdict .ensures) (search needs)
 
-accepted : (c : tie.Else1) → isAccepted (c .before .before .clock-answer .result) ≡ true
-accepted c = sym (c .before .is-accepted .ensures) ∙ not-false (c .before .is-accepted .result) (c .if1 .left)
-
-can : (c : tie.Else1) → CanStep (c .before .before .before .before .args .store .now) (c .before .before .before .before .args .table .now) (c .before .before .before .before .args .t)
-can c =
-    let a = c .before .before .before .before .args in
-    can-step (a .store .now) (a .table .now) (c .before .before .before .before .pre) (a .t) [] (Accepted (length (recordsOf (a .store .now)))) (sym (ap isAccepted (answer-is (c .before .before))) ∙ accepted c)
+make-step-requires : tie.Need-make-step-requires
+make-step-requires c κs =
+    let k = c .before .before in
+    let v = k .before .before in
+    let b = v .before .before in
+    let a = b .args in
+    let passed = sym (verdict-is v) ∙ k .enum-told .given .1 in
+    rw (held w32 (a .t) (search needs))
+    (can-step (words (a .store .now) (a .table .now)) (b .pre) (a .t) (first-passed (badStepTime (nowOf (a .store .now)) (a .t)) BadTime [] passed))
 
 same-length : tie.Need-same-length
 same-length c = search needs
@@ -45,12 +49,11 @@ same-length c = search needs
 returns : tie.Need-returns
 unfolding clockOut
 returns c =
-    let o = c .before .before in
-    let a = o .before .before .args in
-    gives-refused (firstToFail (lentChecks (a .store .now) (a .table .now) (clockChecks (a .store .now) (a .t))) (Accepted (length (recordsOf (a .store .now))))) (o .clock-answer .result) (a .store .now) (a .table .now) _ _ (sound-passed (a .store .now) (a .table .now) (o .before .before .pre) _ _ (o .clock-answer .result) (answer-is o)) (sym (c .before .is-accepted .ensures) ∙ not-true (c .before .is-accepted .result) (c .if1 .taken))
-
-step-requires : tie.Need-step-requires
-step-requires c κs = let e = c .before .before in let a = e .before .before .before .before .args in rw (held w32 (a .t) (search needs)) (can e)
+    let k = c .before in
+    let v = k .before .before in
+    let b = v .before .before in
+    let w = words (b .args .store .now) (b .args .table .now) in
+    refused _ (k .why .given .0 .0) w _ (sym (sound-lent w (b .pre) _) ∙ (sym (verdict-is v) ∙ k .why .given .1))
 
 same-length-2 : tie.Need-same-length-2
 same-length-2 c = search needs
@@ -58,17 +61,28 @@ same-length-2 c = search needs
 same-length-3 : tie.Need-same-length-3
 same-length-3 c = search needs
 
-stepped : (c : tie.After-step) → Stepped (c .before .before .before .before .before .before .before .args .store .now) (c .before .before .before .before .before .before .before .args .table .now) (c .before .before .before .before .before .before .before .args .t) (c .step .last .0) (c .step .last .1 .0)
-stepped c = let a = c .before .before .before .before .before .before .before .args in rw (held w32 (a .t) (search needs)) at (c .step .ensures)
-
 returns-2 : tie.Need-returns-2
 unfolding clockOut
 returns-2 c =
-    let s = c .before .before in
-    let e = s .before .before .before in
-    let o = e .before .before in
-    let a = o .before .before .args in
-    gives-done (firstToFail (lentChecks (a .store .now) (a .table .now) (clockChecks (a .store .now) (a .t))) (Accepted (length (recordsOf (a .store .now))))) (o .clock-answer .result) (a .store .now) (a .table .now) _ _ (s .step .last .0) (s .step .last .1 .0) (sound-passed (a .store .now) (a .table .now) (o .before .before .pre) _ _ (o .clock-answer .result) (answer-is o)) (accepted e) (stepped s .store-is) (stepped s .table-is)
+    let m = c .before .before in
+    let k = m .before .before .before in
+    let v = k .before .before in
+    let b = v .before .before in
+    let a = b .args in
+    let w = words (a .store .now) (a .table .now) in
+    done _ w (stepped (a .t) w) (m .make-step .result) _ (sym (sound-lent w (b .pre) _) ∙ (sym (verdict-is v) ∙ k .enum-told .given .1))
+    (subst (λ (t : ℤ). Done (stepped t w) (m .make-step .result) (words (m .make-step .last .0) (m .make-step .last .1 .0))) (held w32 (a .t) (search needs)) (m .make-step .ensures))
 
 pub clock-spec : {M : Type 1} → statement M
-clock-spec = tie.close (tie.spec clock-answer-requires is-accepted-requires same-length returns step-requires same-length-2 same-length-3 returns-2)
+clock-spec =
+    tie.close
+    (tie.spec
+    clock-verdict-requires
+    enum-known-why
+    enum-told
+    make-step-requires
+    same-length
+    returns
+    same-length-2
+    same-length-3
+    returns-2)

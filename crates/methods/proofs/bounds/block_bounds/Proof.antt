@@ -42,7 +42,8 @@ sub-row c = omega arith
 
 row-bounds-requires : tie.Need-row-bounds-requires Inv-loop μ-loop
 row-bounds-requires c κs =
-    let n = c .before .before .before .before .before .before in
+    let h = c .before .before .before in
+    let n = h .before .before .before in
     let a = n .before in
     (n .curve-numbers .ensures, a .pre .0, a .pre .1, a .pre .2, omega arith)
 
@@ -54,7 +55,8 @@ loop-less c = omega arith
 
 loop-again : tie.Need-loop-again Inv-loop μ-loop
 loop-again c =
-    let h = c .before .before .before .before .before in
+    let j = c .before .before in
+    let h = j .before .before .before in
     let a = h .before .before .before .before .args in (
       omega arith,
       omega arith,

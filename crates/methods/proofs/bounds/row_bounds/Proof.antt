@@ -38,7 +38,8 @@ sub-column c = omega arith
 
 row-of-cell-requires : tie.Need-row-of-cell-requires Inv-loop μ-loop
 row-of-cell-requires c κs =
-    let a = c .before .before .before .before .before in
+    let h = c .before .before in
+    let a = h .before .before .before in
     (a .pre .0, a .pre .1, a .pre .2, record { column-on = omega arith; row-on = a .pre .4 })
 
 join-requires : tie.Need-join-requires Inv-loop μ-loop

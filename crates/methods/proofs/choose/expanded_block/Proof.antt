@@ -1,9 +1,8 @@
 -- `methods::choose::expanded_block` meets its contract: the block is missing where the bounds are.
 -- Assumes nothing.
 use mathlib.Core.Path.{ap, _∙_}
-use mir.Syntax.{w64}
-use Rattle.ints.proofs.Machine.{tested₁}
-use Rattle.methods.specs.Reach.{expandedRect, blockOf}
+use Rattle.methods.specs.Reach.{blockOf}
+use Rattle.methods.specs.Aims.{sliceAim}
 use Rattle.methods.proofs.ChooseLaws.{expanded-found}
 use borrow.Author.Needs.{needs}
 use Rattle.methods.proofs.choose.expanded_block.Statement.{statement}
@@ -12,21 +11,18 @@ use Rattle.methods.proofs.choose.expanded_block.Tie as tie
 is-empty-requires : tie.Need-is-empty-requires
 is-empty-requires c κs = search needs
 
-expand-requires : tie.Need-expand-requires
-expand-requires c κs = search needs
+expanded-requires : tie.Need-expanded-requires
+expanded-requires c κs = search needs
 
 block-of-requires : tie.Need-block-of-requires
 block-of-requires c κs = search needs
 
 returns : tie.Need-returns
 returns c =
-    let a = c .before .before .before in
-    let w = a .args .bounds in
-    let q = a .args .q in
-    expanded-found w q (a .args .d) (c .before .before .is-empty .ensures)
-    (c .block-of .ensures
-    ∙ ap blockOf (tested₁ w64 (expandedRect q w) (c .before .expand .result) (a .args .d) (c .before .expand .ensures) (a .fits .d .sfits)))
+    let a = c .before .before .before .args in
+    expanded-found (a .bounds) (sliceAim (a .slice)) (c .before .before .is-empty .ensures)
+    (c .block-of .ensures ∙ ap blockOf (c .before .expanded .ensures))
 
 pub expanded-block-spec : {M : Type 1} → statement M
 expanded-block-spec =
-    tie.close (tie.spec is-empty-requires expand-requires block-of-requires returns)
+    tie.close (tie.spec is-empty-requires expanded-requires block-of-requires returns)

@@ -2,13 +2,10 @@
 -- Assumes nothing.
 use mathlib.Core.Path.{_≡_, sym, ap, _∙_}
 use denote.Ref.{now}
-use mir.Syntax.{w64}
-use Rattle.ints.proofs.Machine.{tested₁}
 use Rattle.rows.specs.Row.{isEmpty, validRow}
-use Rattle.rows.specs.declared.Row.{Row}
-use Rattle.methods.specs.Reach.{movedCellMeets}
+use Rattle.methods.specs.Aims.{sliceAim}
 use Rattle.methods.specs.Chosen.{rowsOfSlot}
-use Rattle.methods.proofs.MarkLaws.{empty-not-reached, reached-is, ask-back}
+use Rattle.methods.proofs.MarkLaws.{empty-not-reached, reached-is}
 use Rattle.methods.proofs.ChosenLaws.{slot-valid}
 use borrow.Author.Needs.{needs}
 use Rattle.methods.proofs.mark.is_reached.Statement.{statement}
@@ -28,24 +25,29 @@ returns : tie.Need-returns
 returns c =
     let e = c .before in
     let a = e .before .before .args in
-    empty-not-reached (rowsOfSlot (now (a .table)) (a .slot)) (a .q) (a .d) (a .c) (sym (emptiness e) ∙ c .if1 .taken)
+    empty-not-reached (rowsOfSlot (now (a .table)) (a .slot)) (sliceAim (a .slice)) (a .c) (sym (emptiness e) ∙ c .if1 .taken)
 
-moved-cell-meets-requires : tie.Need-moved-cell-meets-requires
-moved-cell-meets-requires c κs =
+meets-requires : tie.Need-meets-requires
+meets-requires c κs =
     let r = c .before .before in
     let a = r .before in
-    (a .pre .3, ask-back (a .pre .2) (a .fits .d .sfits), ap validRow (r .row-of-cell .ensures) ∙ slot-valid (a .pre .1) (a .args .c) (a .pre .3))
+    record {
+      ask = a .pre .ask;
+      on-grid = a .pre .on-grid;
+      valid = ap validRow (r .row-of-cell .ensures) ∙ slot-valid (a .pre .of-slot) (a .args .c) (a .pre .on-grid);
+    }
 
 returns-2 : tie.Need-returns-2
 returns-2 c =
     let e = c .before .before in
     let r = e .before in
     let a = r .before .args in
-    tested₁ w64 (movedCellMeets (a .c) (r .row-of-cell .result) (a .q)) (c .moved-cell-meets .result) (a .d) (c .moved-cell-meets .ensures) (r .before .fits .d .sfits)
-    ∙ ap (λ (row : Row). movedCellMeets (a .c) row (a .q) (a .d)) (r .row-of-cell .ensures)
-    ∙ reached-is (rowsOfSlot (now (a .table)) (a .slot)) (a .q) (a .d) (a .c) (sym (emptiness e) ∙ c .before .if1 .left)
+    let aim = sliceAim (a .slice) in
+    c .meets .ensures
+    ∙ ap (aim .meets (a .c)) (r .row-of-cell .ensures)
+    ∙ reached-is (rowsOfSlot (now (a .table)) (a .slot)) aim (a .c) (sym (emptiness e) ∙ c .before .if1 .left)
 
 pub is-reached-spec : {M : Type 1} → statement M
 is-reached-spec =
     tie.close
-    (tie.spec row-of-cell-requires is-empty-requires returns moved-cell-meets-requires returns-2)
+    (tie.spec row-of-cell-requires is-empty-requires returns meets-requires returns-2)

@@ -44,7 +44,8 @@ loop-less c = omega arith
 
 loop-again : tie.Need-loop-again Inv-loop μ-loop
 loop-again c =
-    let h = c .before .before .before .before .before .before .before in
+    let m = c .before .before .before in
+    let h = m .before .before .before .before in
     let b = h .before .before .before .args .b in
     let row = h .loop .row in (
       search needs,

@@ -40,7 +40,8 @@ loop-less c = omega arith
 
 loop-again : tie.Need-loop-again Inv-loop μ-loop
 loop-again c =
-    let h = c .before .before .before .before .before .before in
+    let m = c .before .before .before in
+    let h = m .before .before .before in
     let a = h .before .before in
     let b = a .args .b in
     let column = h .loop .column in (

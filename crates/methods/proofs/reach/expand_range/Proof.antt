@@ -35,14 +35,16 @@ position-before-requires-4 c κs = search (needs, small-back, small-wide)
 
 returns : tie.Need-returns
 returns c =
-    let e = c .before .before .before .before .before .before in
+    let p = c .before .before .before in
+    let e = p .before .before .before in
     let a = e .before in
     same-range (search before-is) (search before-is)
     ∙ expanded-forward (a .args .range) (a .args .least) (a .args .greatest) (a .args .d) (sign-taken w64 (a .args .d) true (e .if1 .taken) (a .fits .d .sfits))
 
 returns-2 : tie.Need-returns-2
 returns-2 c =
-    let e = c .before .before .before .before .before .before in
+    let p = c .before .before .before in
+    let e = p .before .before .before in
     let a = e .before in
     same-range (search before-is) (search before-is)
     ∙ expanded-backward (a .args .range) (a .args .least) (a .args .greatest) (a .args .d) (sign-taken w64 (a .args .d) false (e .if1 .left) (a .fits .d .sfits))

@@ -1,7 +1,6 @@
 -- `methods::reach::moved_meets` meets its contract: a moved column meets a range exactly when it meets the expanded range where it is.
 -- Assumes nothing.
-use Rattle.methods.specs.Reach.{expandedRange}
-use Rattle.methods.proofs.ReachLaws.{axis-called, meets-both, meets-neither}
+use Rattle.methods.proofs.ReachLaws.{expanded-called, meets-both, meets-neither}
 use borrow.Author.Needs.{needs}
 use Rattle.methods.proofs.reach.moved_meets.Statement.{statement}
 use Rattle.methods.proofs.reach.moved_meets.Tie as tie
@@ -16,14 +15,10 @@ ends-from-requires : tie.Need-ends-from-requires
 ends-from-requires c κs = search needs
 
 returns : tie.Need-returns
-returns c =
-    let a = c .before .before .before .before .before .before .args in
-    search (meets-both, axis-called (expandedRange (a .range)))
+returns c = search (meets-both, expanded-called)
 
 returns-2 : tie.Need-returns-2
-returns-2 c =
-    let a = c .before .before .before .before .args in
-    search (meets-neither, axis-called (expandedRange (a .range)))
+returns-2 c = search (meets-neither, expanded-called)
 
 pub moved-meets-spec : {M : Type 1} → statement M
 moved-meets-spec =

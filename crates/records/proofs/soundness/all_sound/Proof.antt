@@ -38,7 +38,10 @@ read-from-requires : tie.Need-read-from-requires Inv-loop μ-loop
 read-from-requires c κs = search needs
 
 is-sound-record-requires : tie.Need-is-sound-record-requires Inv-loop μ-loop
-is-sound-record-requires c κs = (c .before .before .before .before .curve-numbers .ensures, rw (held w32 (c .before .before .before .before .before .args .time) (search needs)) (c .before .before .before .before .before .pre .1))
+is-sound-record-requires c κs =
+    let k = c .before .before .before .before in
+    let s = k .before in
+    (k .curve-numbers .ensures, rw (held w32 (s .args .time) (search needs)) (s .pre .1))
 
 none : (time : ℤ) → allSound time [] ≡ true
 unfolding allSound
@@ -48,22 +51,36 @@ more : (time : ℤ) (r : Record) (rs : List Record) → allSound time (r ∷ rs)
 unfolding allSound
 more time r rs = refl
 
+-- the entry, and the loop as seen from a test
+abbrev start : tie.At-loop Inv-loop μ-loop → tie.Start Inv-loop μ-loop
+start c = c .before .before
+
+abbrev looping : tie.After-is-sound-record Inv-loop μ-loop → tie.At-loop Inv-loop μ-loop
+looping c = c .before .before .before .before
+
 -- the test of the record at i
-test : (c : tie.After-is-sound-record Inv-loop μ-loop) → c .is-sound-record .result ≡ isSoundRecord (back w32 (c .before .before .before .before .before .before .args .time)) (recordFrom (c .before .before .before .before .before .before .args .words .now) (recordWords * c .before .before .before .before .loop .i))
+test :
+    (c : tie.After-is-sound-record Inv-loop μ-loop)
+    → c .is-sound-record .result
+    ≡ isSoundRecord (back w32 (start (looping c) .args .time)) (recordFrom (start (looping c) .args .words .now) (recordWords * looping c .loop .i))
 test c =
-    let a = c .before .before .before .before .before .before .args in
+    let a = start (looping c) .args in
     c .is-sound-record .ensures ∙ ap (isSoundRecord (back w32 (a .time))) (c .before .before .read-from .ensures)
 
 -- the time is read back as it is
-at-time : (c : tie.Start Inv-loop μ-loop) → allSound (back w32 (c .args .time)) (readRecords (c .args .n) (c .args .words .now)) ≡ allSound (c .args .time) (readRecords (c .args .n) (c .args .words .now))
+at-time :
+    (c : tie.Start Inv-loop μ-loop)
+    → allSound (back w32 (c .args .time)) (readRecords (c .args .n) (c .args .words .now)) ≡ allSound (c .args .time) (readRecords (c .args .n) (c .args .words .now))
 at-time c = ap (λ (z : ℤ). allSound z (readRecords (c .args .n) (c .args .words .now))) (held w32 (c .args .time) (search needs))
 
 returns : tie.Need-returns Inv-loop μ-loop
 returns c =
-    let at = c .before .before .before .before .before in
-    let a = at .before .before .args in
+    let at = looping (c .before) in
+    let a = start at .args in
     let z = back w32 (a .time) in
-    failed-here (allSound z) (isSoundRecord z) (none z) (more z) (a .n) (at .loop .i) (a .words .now) (at .loop .inv .1) (omega arith) (sym (test (c .before)) ∙ not-true (c .before .is-sound-record .result) (c .if1 .taken)) ∙ at-time (at .before .before)
+    failed-here (allSound z) (isSoundRecord z) (none z) (more z) (a .n) (at .loop .i) (a .words .now) (at .loop .inv .1) (omega arith)
+    (sym (test (c .before)) ∙ not-true (c .before .is-sound-record .result) (c .if1 .taken))
+    ∙ at-time (start at)
 
 add-i : tie.Need-add-i Inv-loop μ-loop
 add-i c = search needs
@@ -73,17 +90,18 @@ loop-less c = search needs
 
 loop-again : tie.Need-loop-again Inv-loop μ-loop
 loop-again c =
-    let at = c .before .before .before .before .before in
-    let a = at .before .before .args in
+    let at = looping (c .before) in
+    let a = start at .args in
     let z = back w32 (a .time) in
-    (omega arith, passed-here (allSound z) (isSoundRecord z) (none z) (more z) (a .n) (at .loop .i) (a .words .now) (at .loop .inv .1) (omega arith) (sym (test (c .before)) ∙ not-false (c .before .is-sound-record .result) (c .if1 .left)))
+    let next = sym (test (c .before)) ∙ not-false (c .before .is-sound-record .result) (c .if1 .left) in
+    (omega arith, passed-here (allSound z) (isSoundRecord z) (none z) (more z) (a .n) (at .loop .i) (a .words .now) (at .loop .inv .1) (omega arith) next)
 
 returns-2 : tie.Need-returns-2 Inv-loop μ-loop
 returns-2 c =
     let at = c .before in
-    let a = at .before .before .args in
+    let a = start at .args in
     let z = back w32 (a .time) in
-    passed-all (allSound z) (isSoundRecord z) (none z) (more z) (a .n) (at .loop .i) (a .words .now) (at .loop .inv .1) (omega arith) ∙ at-time (at .before .before)
+    passed-all (allSound z) (isSoundRecord z) (none z) (more z) (a .n) (at .loop .i) (a .words .now) (at .loop .inv .1) (omega arith) ∙ at-time (start at)
 
 pub all-sound-spec : {M : Type 1} → statement M
 all-sound-spec =

@@ -60,7 +60,9 @@ index-of-requires c κs =
     let id = getD (at .before .args .words .now) (recordWords * at .loop .i + 1) (pos 0) in
     rw (held w32 id (c .index-of-arg .given)) (from-between 1 65535 id (id-from _ (ranged (c .before))))
 
-index-is : (c : tie.After-index-of Inv-loop μ-loop) → c .index-of .result ≡ up (getD (c .before .before .before .before .args .words .now) (recordWords * c .before .before .before .loop .i + 1) (pos 0))
+index-is :
+    (c : tie.After-index-of Inv-loop μ-loop)
+    → c .index-of .result ≡ up (getD (c .before .before .before .before .args .words .now) (recordWords * c .before .before .before .loop .i + 1) (pos 0))
 index-is c =
     let at = c .before .before .before in
     let id = getD (at .before .args .words .now) (recordWords * at .loop .i + 1) (pos 0) in

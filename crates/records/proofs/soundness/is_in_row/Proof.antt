@@ -43,12 +43,14 @@ module _ (c : tie.Start) where
 
 narrow-requires : tie.Need-narrow-requires
 narrow-requires c κs =
-    let s = c .before .before .before .before .before .before in
+    let n = c .before .before in
+    let s = n .before .before .before .before in
     rw (speed-held (s .args .r .report .vx) (vx-is s)) (vx-is s)
 
 narrow-requires-2 : tie.Need-narrow-requires-2
 narrow-requires-2 c κs =
-    let s = c .before .before .before .before .before .before .before .before in
+    let n = c .before .before .before .before in
+    let s = n .before .before .before .before in
     rw (speed-held (s .args .r .report .vy) (vy-is s)) (vy-is s)
 
 holds-requires : tie.Need-holds-requires

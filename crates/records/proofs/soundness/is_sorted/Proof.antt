@@ -39,14 +39,22 @@ read-from-requires-2 c κs = search needs
 precedes-requires : tie.Need-precedes-requires Inv-loop μ-loop
 precedes-requires c κs = search needs
 
+-- the loop, as seen from a test
+abbrev looping : tie.After-precedes Inv-loop μ-loop → tie.At-loop Inv-loop μ-loop
+looping c = c .before .before .before .before
+
 -- the test of the record at i and the one before it
-test : (c : tie.After-precedes Inv-loop μ-loop) → c .precedes .result ≡ precedes (recordFrom (c .before .before .before .before .before .args .words .now) (recordWords * (c .before .before .before .before .loop .i - 1))) (recordFrom (c .before .before .before .before .before .args .words .now) (recordWords * c .before .before .before .before .loop .i))
+test :
+    (c : tie.After-precedes Inv-loop μ-loop)
+    → c .precedes .result
+    ≡ precedes (recordFrom (looping c .before .args .words .now) (recordWords * (looping c .loop .i - 1))) (recordFrom (looping c .before .args .words .now) (recordWords * looping c .loop .i))
 test c = c .precedes .ensures ∙ ap₂ precedes (c .before .before .read-from .ensures) (c .before .read-from2 .ensures)
 
 returns : tie.Need-returns Inv-loop μ-loop
 returns c =
-    let at = c .before .before .before .before .before in
-    not-in-order (at .before .args .n) (at .loop .i) (at .before .args .words .now) (at .loop .inv .0) (at .loop .inv .1) (omega arith) (sym (test (c .before)) ∙ not-true (c .before .precedes .result) (c .if1 .taken))
+    let at = looping (c .before) in
+    not-in-order (at .before .args .n) (at .loop .i) (at .before .args .words .now) (at .loop .inv .0) (at .loop .inv .1) (omega arith)
+    (sym (test (c .before)) ∙ not-true (c .before .precedes .result) (c .if1 .taken))
 
 add-i : tie.Need-add-i Inv-loop μ-loop
 add-i c = search needs
@@ -56,8 +64,9 @@ loop-less c = search needs
 
 loop-again : tie.Need-loop-again Inv-loop μ-loop
 loop-again c =
-    let at = c .before .before .before .before .before in
-    (omega arith, in-order (at .before .args .n) (at .loop .i) (at .before .args .words .now) (at .loop .inv .0) (at .loop .inv .1) (omega arith) (sym (test (c .before)) ∙ not-false (c .before .precedes .result) (c .if1 .left)))
+    let at = looping (c .before) in
+    let next = sym (test (c .before)) ∙ not-false (c .before .precedes .result) (c .if1 .left) in
+    (omega arith, in-order (at .before .args .n) (at .loop .i) (at .before .args .words .now) (at .loop .inv .0) (at .loop .inv .1) (omega arith) next)
 
 returns-2 : tie.Need-returns-2 Inv-loop μ-loop
 returns-2 c = in-order-to-the-end (c .before .before .args .n) (c .before .loop .i) (c .before .before .args .words .now) (c .before .loop .inv .0) (c .before .loop .inv .1) (omega arith)

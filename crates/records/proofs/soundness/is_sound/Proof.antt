@@ -58,19 +58,25 @@ part-speeds-in-rows-end c = search needs
 held-of-requires : tie.Need-held-of-requires
 held-of-requires c κs = let h = sound (c .before .before .before) .long in omega arith
 
+-- the entry
+abbrev start : tie.After-held-of → tie.Start
+start c =
+    let s = c .before .before .before .before in
+    s .before .before .before
+
 module _ (c : tie.After-held-of) where
-  fits : recordWords * c .held-of .result ≤ length (take (length (c .before .before .before .before .before .before .before .args .store .now) - recordWords) (drop recordWords (c .before .before .before .before .before .before .before .args .store .now)))
+  fits : recordWords * c .held-of .result ≤ length (take (length (start c .args .store .now) - recordWords) (drop recordWords (start c .args .store .now)))
   fits =
-      let s = c .before .before .before .before .before .before .before .args .store .now in
+      let s = start c .args .store .now in
       let h = sound (c .before .before .before .before) in
       let l = h .long in
       let f = h .few in
       let e = c .held-of .ensures in
       rw (part-from recordWords s) (simp length-drop (omega arith))
 
-  records-are : readRecords (c .held-of .result) (take (length (c .before .before .before .before .before .before .before .args .store .now) - recordWords) (drop recordWords (c .before .before .before .before .before .before .before .args .store .now))) ≡ recordsOf (c .before .before .before .before .before .before .before .args .store .now)
+  records-are : readRecords (c .held-of .result) (take (length (start c .args .store .now) - recordWords) (drop recordWords (start c .args .store .now))) ≡ recordsOf (start c .args .store .now)
   unfolding recordsOf
-  records-are = ap₂ readRecords (c .held-of .ensures) (part-from recordWords (c .before .before .before .before .before .before .before .args .store .now))
+  records-are = ap₂ readRecords (c .held-of .ensures) (part-from recordWords (start c .args .store .now))
 
 speeds-in-rows-requires : tie.Need-speeds-in-rows-requires
 speeds-in-rows-requires c κs =

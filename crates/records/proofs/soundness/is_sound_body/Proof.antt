@@ -69,7 +69,17 @@ sound-is c =
     let s = h .before .args .store .now in
     c .all-sound .ensures ∙ ap₂ allSound (held w32 (getD s 0 (pos 0)) (c .before .all-sound-arg2 .given)) (records-are h)
 
-sound-passed : (c : tie.Else1) → allSound (nowOf (c .before .before .before .before .before .args .store .now)) (recordsOf (c .before .before .before .before .before .args .store .now)) ≡ true
+-- the count read, as seen after each test passed
+abbrev counted : tie.Else1 → tie.After-held-of
+counted c = c .before .before .before .before
+
+abbrev counted2 : tie.Else2 → tie.After-held-of
+counted2 c = counted (c .before .before .before)
+
+abbrev counted3 : tie.Else3 → tie.After-held-of
+counted3 c = counted2 (c .before .before .before)
+
+sound-passed : (c : tie.Else1) → allSound (nowOf (counted c .before .args .store .now)) (recordsOf (counted c .before .args .store .now)) ≡ true
 sound-passed c = sym (sound-is (c .before)) ∙ not-false (c .before .all-sound .result) (c .if1 .left)
 
 returns : tie.Need-returns
@@ -85,12 +95,12 @@ part-is-sorted-end : tie.Need-part-is-sorted-end
 part-is-sorted-end c = search needs
 
 is-sorted-requires : tie.Need-is-sorted-requires
-is-sorted-requires c κs = fits (c .before .before .before .before .before)
+is-sorted-requires c κs = fits (counted (c .before))
 
-sorted-is : (c : tie.After-is-sorted) → c .is-sorted .result ≡ isSorted (recordsOf (c .before .before .before .before .before .before .before .args .store .now))
-sorted-is c = c .is-sorted .ensures ∙ ap isSorted (records-are (c .before .before .before .before .before .before))
+sorted-is : (c : tie.After-is-sorted) → c .is-sorted .result ≡ isSorted (recordsOf (counted (c .before .before) .before .args .store .now))
+sorted-is c = c .is-sorted .ensures ∙ ap isSorted (records-are (counted (c .before .before)))
 
-sorted-passed : (c : tie.Else2) → isSorted (recordsOf (c .before .before .before .before .before .before .before .before .args .store .now)) ≡ true
+sorted-passed : (c : tie.Else2) → isSorted (recordsOf (counted2 c .before .args .store .now)) ≡ true
 sorted-passed c = sym (sorted-is (c .before)) ∙ not-false (c .before .is-sorted .result) (c .if2 .left)
 
 returns-2 : tie.Need-returns-2
@@ -107,16 +117,18 @@ part-ids-distinct-end c = search needs
 
 ids-distinct-requires : tie.Need-ids-distinct-requires
 ids-distinct-requires c κs =
-    let h = c .before .before .before .before .before .before .before .before in
+    let h = counted2 (c .before) in
     let s = h .before .args .store .now in
     let one = c .before .before .before .before in
     (fits h, rw (records-are h) (all-sound-ranged (nowOf s) (recordsOf s) (first (h .before) .time) (sound-passed one)))
 
-distinct-is : (c : tie.After-ids-distinct) → c .ids-distinct .result ≡ idsDistinct (recordsOf (c .before .before .before .before .before .before .before .before .before .before .args .store .now))
-distinct-is c = c .ids-distinct .ensures ∙ ap idsDistinct (records-are (c .before .before .before .before .before .before .before .before .before))
+distinct-is : (c : tie.After-ids-distinct) → c .ids-distinct .result ≡ idsDistinct (recordsOf (counted2 (c .before .before) .before .args .store .now))
+distinct-is c = c .ids-distinct .ensures ∙ ap idsDistinct (records-are (counted2 (c .before .before)))
 
 module _ (c : tie.Else2) where
-  both-passed : (rest : Bool) → (allSound (nowOf (c .before .before .before .before .before .before .before .before .args .store .now)) (recordsOf (c .before .before .before .before .before .before .before .before .args .store .now)) && isSorted (recordsOf (c .before .before .before .before .before .before .before .before .args .store .now))) && rest ≡ rest
+  both-passed :
+      (rest : Bool)
+      → (allSound (nowOf (counted2 c .before .args .store .now)) (recordsOf (counted2 c .before .args .store .now)) && isSorted (recordsOf (counted2 c .before .args .store .now))) && rest ≡ rest
   both-passed rest = simp (sound-passed (c .before .before .before), sorted-passed c)
 
 returns-3 : tie.Need-returns-3
@@ -125,31 +137,31 @@ returns-3 c =
     sym (both-passed (c .before .before .before) _ ∙ simp e)
 
 add-unused : tie.Need-add-unused
-add-unused c = let h = few (c .before .before .before .before .before .before .before .before .before .before) in omega arith
+add-unused c = let h = few (counted3 c) in omega arith
 
 mul-unused : tie.Need-mul-unused
-mul-unused c = let h = few (c .before .before .before .before .before .before .before .before .before .before) in omega arith
+mul-unused c = let h = few (counted3 c) in omega arith
 
 mul-all-zero : tie.Need-mul-all-zero
-mul-all-zero c = let h = few (c .before .before .before .before .before .before .before .before .before .before) in omega arith
+mul-all-zero c = let h = few (counted3 c) in omega arith
 
 sub-all-zero : tie.Need-sub-all-zero
 sub-all-zero c =
-    let h = c .before .before .before .before .before .before .before .before .before .before in
+    let h = counted3 c in
     let f = few h in
     let long = h .before .pre .0 in
     omega arith
 
 part-all-zero-start : tie.Need-part-all-zero-start
 part-all-zero-start c =
-    let h = c .before .before .before .before .before .before .before .before .before .before in
+    let h = counted3 c in
     let f = few h in
     let long = h .before .pre .0 in
     omega arith
 
 part-all-zero-end : tie.Need-part-all-zero-end
 part-all-zero-end c =
-    let h = c .before .before .before .before .before .before .before .before .before .before in
+    let h = counted3 c in
     let f = few h in
     let long = h .before .pre .0 in
     omega arith
@@ -160,7 +172,7 @@ all-zero-requires c κs = search needs
 returns-4 : tie.Need-returns-4
 returns-4 c =
     let g = c .before .before in
-    let h = g .before .before .before .before .before .before .before .before .before .before in
+    let h = counted3 g in
     let s = h .before .args .store .now in
     let e = sym (distinct-is (g .before)) ∙ not-false (g .before .ids-distinct .result) (g .if3 .left) in
     let z = part-from (recordWords * (h .held-of .result + 1)) s ∙ ap (λ (n : ℕ). drop (recordWords * (n + 1)) s) (h .held-of .ensures) in

@@ -23,9 +23,15 @@ is-between-requires c κs = search needs
 time-is : (c : tie.After-is-between) → c .is-between .result ≡ isTime (getD (c .before .before .args .store .now) 0 (pos 0))
 time-is c = tested₁ w32 isTime (c .is-between .result) (getD (c .before .before .args .store .now) 0 (pos 0)) (c .is-between .ensures) (c .before .is-between-arg .given)
 
-count-is : (c : tie.After-is-between2) → c .is-between2 .result ≡ between (pos 0) (pos capacity) (getD (c .before .before .before .before .before .args .store .now) 1 (pos 0))
+-- the entry
+abbrev start : tie.After-is-between2 → tie.Start
+start c =
+    let e = c .before .before in
+    e .before .before .before
+
+count-is : (c : tie.After-is-between2) → c .is-between2 .result ≡ between (pos 0) (pos capacity) (getD (start c .args .store .now) 1 (pos 0))
 count-is c =
-    tested₁ w32 (between (pos 0) (pos capacity)) (c .is-between2 .result) (getD (c .before .before .before .before .before .args .store .now) 1 (pos 0)) (c .is-between2 .ensures) (c .before .is-between-arg2 .given)
+    tested₁ w32 (between (pos 0) (pos capacity)) (c .is-between2 .result) (getD (start c .args .store .now) 1 (pos 0)) (c .is-between2 .ensures) (c .before .is-between-arg2 .given)
 
 time-passed : (c : tie.Else1) → isTime (getD (c .before .before .before .args .store .now) 0 (pos 0)) ≡ true
 time-passed c = sym (time-is (c .before)) ∙ not-false (c .before .is-between .result) (c .if1 .left)

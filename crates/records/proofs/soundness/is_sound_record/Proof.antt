@@ -36,9 +36,15 @@ returns-2 : tie.Need-returns-2
 unfolding isSoundRecord
 returns-2 c = let e = sym (not-after (c .before)) ∙ not-true (c .before .is-between .result) (c .if2 .taken) in sym (simp (in-range-is (c .before .before .before), e))
 
+-- the entry
+abbrev start : tie.Else2 → tie.Start
+start c =
+    let e = c .before .before .before in
+    e .before .before
+
 key-is-right-requires : tie.Need-key-is-right-requires
 key-is-right-requires c κs =
-    let s = c .before .before .before .before .before in
+    let s = start c in
     let e = sym (not-after (c .before)) ∙ not-false (c .before .is-between .result) (c .if2 .left) in
     (s .pre .0, rw (held w32 (s .args .time) (search needs)) (s .pre .1), in-range-is (c .before .before .before), earlier-time (s .args .time) (s .args .r .report .t) (s .pre .1) e)
 
@@ -46,7 +52,7 @@ returns-3 : tie.Need-returns-3
 unfolding isSoundRecord
 returns-3 c =
     let e = c .before in
-    let a = e .before .before .before .before .before .args in
+    let a = start e .args in
     let b = sym (not-after (e .before)) ∙ not-false (e .before .is-between .result) (e .if2 .left) in
     tested₁ w32 (λ z. keyIsRight z (a .r)) (c .key-is-right .result) (a .time) (c .key-is-right .ensures) (search needs)
     ∙ sym (simp (in-range-is (e .before .before .before), b))

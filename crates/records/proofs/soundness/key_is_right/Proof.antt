@@ -42,27 +42,33 @@ phase-of-key-requires c κs = search needs
 phase-at-requires-2 : tie.Need-phase-at-requires-2
 phase-at-requires-2 c κs = search needs
 
+-- the entry
+abbrev start : tie.After-phase-at2 → tie.Start
+start c =
+    let p = c .before .before in
+    p .before .before .before
+
 module _ (c : tie.After-phase-at2) where
-  key-phase : c .before .before .phase-of-key .result ≡ phaseOfKey (phaseOf (c .before .before .before .before .before .args .time)) (c .before .before .before .before .before .args .r .key)
+  key-phase : c .before .before .phase-of-key .result ≡ phaseOfKey (phaseOf (start c .args .time)) (start c .args .r .key)
   key-phase =
-      let a = c .before .before .before .before .before .args in
+      let a = start c .args in
       let p = c .before .before .before .before .phase-at in
       c .before .before .phase-of-key .ensures
       ∙ ap₂ phaseOfKey (tested₁ w32 phaseOf (p .result) (a .time) (p .ensures) (search needs)) (held w32 (a .r .key) (search needs))
 
-  report-phase : c .phase-at2 .result ≡ phaseOf (c .before .before .before .before .before .args .r .report .t)
+  report-phase : c .phase-at2 .result ≡ phaseOf (start c .args .r .report .t)
   report-phase =
-      let a = c .before .before .before .before .before .args in
+      let a = start c .args in
       tested₁ w32 phaseOf (c .phase-at2 .result) (a .r .report .t) (c .phase-at2 .ensures) (search needs)
 
 returns : tie.Need-returns
 returns c =
-    let a = c .before .before .before .before .before .before .args in
+    let a = start (c .before) .args in
     too-early (a .time) (a .r) _ _ (key-phase (c .before)) (report-phase (c .before)) (c .if1 .taken)
 
 key-in-requires : tie.Need-key-in-requires
 key-in-requires c κs =
-    let s = c .before .before .before .before .before .before in
+    let s = start (c .before) in
     let p = key-phase (c .before) in
     (s .pre .0, omega (arith, last-phase (s .args .time) (s .pre .1), phase-of-key-small (phaseOf (s .args .time)) (s .args .r .key)), s .pre .2, s .pre .3)
 
@@ -72,7 +78,7 @@ is-same-requires c κs = search needs
 returns-2 : tie.Need-returns-2
 returns-2 c =
     let e = c .before .before .before in
-    let a = e .before .before .before .before .before .before .args in
+    let a = start (e .before) .args in
     by-key (a .time) (a .r) _ _ (key-phase (e .before)) (report-phase (e .before)) (e .if1 .left) (c .is-same .result)
     (tested₂ w32 eqZ (c .is-same .result) (a .r .key) (c .before .before .key-in .result) (c .is-same .ensures) (search needs) (search needs)
     ∙ ap (eqZ (a .r .key)) (c .before .before .key-in .ensures))

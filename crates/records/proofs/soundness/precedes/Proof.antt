@@ -31,7 +31,12 @@ module _ (a b : Record) (ha : mag (a .key) < 2 ^ hbits w32) (hb : mag (b .key) <
       let n : eqZ (a .key) (b .key) ≡ false = not-same (a .key) (b .key) (λ e. omega (arith, signed, ap up e, ap down e)) in
       sym (simp (l, n))
 
-  by-id : ltZ (back w32 (a .key)) (back w32 (b .key)) ≡ false → ltZ (back w32 (b .key)) (back w32 (a .key)) ≡ false → mag (a .report .id) < 2 ^ hbits w32 → mag (b .report .id) < 2 ^ hbits w32 → ltZ (back w32 (a .report .id)) (back w32 (b .report .id)) ≡ precedes a b
+  by-id :
+      ltZ (back w32 (a .key)) (back w32 (b .key)) ≡ false
+      → ltZ (back w32 (b .key)) (back w32 (a .key)) ≡ false
+      → mag (a .report .id) < 2 ^ hbits w32
+      → mag (b .report .id) < 2 ^ hbits w32
+      → ltZ (back w32 (a .report .id)) (back w32 (b .report .id)) ≡ precedes a b
   unfolding precedes
   by-id f u hi hj =
       let l : ltZ (a .key) (b .key) ≡ false = simp (held w32 (a .key) ha, held w32 (b .key) hb) at f in

@@ -54,7 +54,10 @@ unfolding speedsInRows
 more t r rs = refl
 
 -- the test of the record at i
-test : (c : tie.After-is-in-row Inv-loop μ-loop) → c .is-in-row .result ≡ held (c .before .before .before .before .args .table .now) (recordFrom (c .before .before .before .before .args .words .now) (recordWords * c .before .before .before .loop .i))
+test :
+    (c : tie.After-is-in-row Inv-loop μ-loop)
+    → c .is-in-row .result
+    ≡ held (c .before .before .before .before .args .table .now) (recordFrom (c .before .before .before .before .args .words .now) (recordWords * c .before .before .before .loop .i))
 test c = c .is-in-row .ensures ∙ ap (held (c .before .before .before .before .args .table .now)) (c .before .read-from .ensures)
 
 returns : tie.Need-returns Inv-loop μ-loop
@@ -62,7 +65,8 @@ returns c =
     let at = c .before .before .before .before in
     let a = at .before .args in
     let t = a .table .now in
-    failed-here (speedsInRows t) (held t) (none t) (more t) (a .n) (at .loop .i) (a .words .now) (at .loop .inv .2) (omega arith) (sym (test (c .before)) ∙ not-true (c .before .is-in-row .result) (c .if1 .taken))
+    failed-here (speedsInRows t) (held t) (none t) (more t) (a .n) (at .loop .i) (a .words .now) (at .loop .inv .2) (omega arith)
+    (sym (test (c .before)) ∙ not-true (c .before .is-in-row .result) (c .if1 .taken))
 
 add-i : tie.Need-add-i Inv-loop μ-loop
 add-i c = search needs
@@ -77,7 +81,8 @@ loop-again c =
     let t = a .table .now in (
       omega arith,
       ranged-here (a .n) (at .loop .i) (a .words .now) (omega arith) (at .loop .inv .1) .1,
-      passed-here (speedsInRows t) (held t) (none t) (more t) (a .n) (at .loop .i) (a .words .now) (at .loop .inv .2) (omega arith) (sym (test (c .before)) ∙ not-false (c .before .is-in-row .result) (c .if1 .left)),
+      passed-here (speedsInRows t) (held t) (none t) (more t) (a .n) (at .loop .i) (a .words .now) (at .loop .inv .2) (omega arith)
+          (sym (test (c .before)) ∙ not-false (c .before .is-in-row .result) (c .if1 .left)),
     )
 
 returns-2 : tie.Need-returns-2 Inv-loop μ-loop

@@ -1,53 +1,64 @@
--- `session::answering::answer_call` meets its contract.
+-- `session::answering::answer_call` meets its contract: the ids written in front of the list are told.
 -- Assumes nothing.
-use mir.Syntax.{w32}
-use Rattle.ints.proofs.Machine.{held}
-use Rattle.session.proofs.AnswerLaws.{answers-no-call}
+use mathlib.Core.Path.{sym}
+use native.Mathlib.Omega.{arith}
+use denote.Ref.{now}
+use lib.Seq.{length-take-le}
+use Prim.Native.Nat.{_≤_}
+use lib.ListN.{length}
+use Rattle.records.specs.Words.{Words, words}
+use Rattle.session.specs.Session.{idsTold}
+use Rattle.session.proofs.AnswerLaws.{point-sound, told-fits, told-few, answers-made}
 use borrow.Author.Needs.{needs}
 use Rattle.session.proofs.answering.answer_call.Statement.{statement}
 use Rattle.session.proofs.answering.answer_call.Tie as tie
 
-enum-known-call : tie.Need-enum-known-call
-enum-known-call c = search needs
+-- the entry
+abbrev start : tie.After-call → tie.Start
+start c = let s = c .before .before .before in s .before .before .before
 
-answer-open-requires : tie.Need-answer-open-requires
-answer-open-requires c κs = search needs
+-- the call itself
+abbrev called : tie.After-ids-told → tie.After-call
+called i = let s = i .before .before .before in s .before .before
 
-enum-known-call-2 : tie.Need-enum-known-call-2
-enum-known-call-2 c = search needs
+-- the words at entry
+abbrev entry : tie.Start → Words
+entry a = words (now (a .args .store)) (now (a .args .table))
 
-answer-clock-requires : tie.Need-answer-clock-requires
-answer-clock-requires c κs = search needs
+call-requires : tie.Need-call-requires
+call-requires c κs =
+    let s = c .before .before .before in
+    let a = s .before .before in
+    point-sound (entry a) (a .pre .at-point .ledger) (a .pre .at-point .point)
 
-enum-known-call-3 : tie.Need-enum-known-call-3
-enum-known-call-3 c = search needs
+few : (c : tie.After-call) → idsTold (c .call .result) ≤ length (now (start c .args .list))
+few c =
+    let a = start c in
+    told-few (a .args .call) (entry a) (now (a .args .list)) (words (c .call .last .0) (c .call .last .1 .0)) (c .call .last .1 .1 .0) (c .call .result) (c .call .ensures) (a .pre .list-long)
 
-answer-add-requires : tie.Need-answer-add-requires
-answer-add-requires c κs = search needs
+ids-told-requires : tie.Need-ids-told-requires
+ids-told-requires c κs = search needs
 
-enum-known-call-4 : tie.Need-enum-known-call-4
-enum-known-call-4 c = search needs
+slice-reshare-prefix-write-answer : tie.Need-slice-reshare-prefix-write-answer
+slice-reshare-prefix-write-answer c =
+    let m = called c in
+    omega (arith, c .ids-told .ensures, few m, m .call .kept .1 .1 .0)
 
-answer-update-requires : tie.Need-answer-update-requires
-answer-update-requires c κs = search needs
+slice-aggregate-write-answer : tie.Need-slice-aggregate-write-answer
+slice-aggregate-write-answer c =
+    let i = c .before in
+    let m = called i in
+    sym (length-take-le _ _ (omega (arith, i .ids-told .ensures, few m, m .call .kept .1 .1 .0)))
 
-enum-known-call-5 : tie.Need-enum-known-call-5
-enum-known-call-5 c = search needs
-
-answer-drop-requires : tie.Need-answer-drop-requires
-answer-drop-requires c κs = search needs
-
-enum-known-call-6 : tie.Need-enum-known-call-6
-enum-known-call-6 c = search needs
-
-answer-ask-requires : tie.Need-answer-ask-requires
-answer-ask-requires c κs = search needs
-
-enum-told : tie.Need-enum-told
-enum-told c = search needs
-
-write-no-call-requires : tie.Need-write-no-call-requires
-write-no-call-requires c κs = search needs
+write-answer-requires : tie.Need-write-answer-requires
+write-answer-requires c κs =
+    let i = c .before .before in
+    let m = called i in
+    let a = start m in
+    rw (i .ids-told .ensures)
+    (told-fits (a .args .call) (entry a) (now (a .args .list))
+    (words (m .call .last .0) (m .call .last .1 .0)) (m .call .last .1 .1 .0) (m .call .result) (m .call .ensures)
+    (a .pre .list-long) (a .pre .at-point) (now (a .args .out)) (a .pre .room))
 
 same-length : tie.Need-same-length
 same-length c = search needs
@@ -58,98 +69,30 @@ same-length-2 c = search needs
 same-length-3 : tie.Need-same-length-3
 same-length-3 c = search needs
 
-returns : tie.Need-returns
-returns c =
-    let w = c .before .before .before .before in
-    let k = c .before .before .before .before .before .before .before .before .before .call in
-    rw (k .given .1) (simp (held w32 (k .given .0 .0) (search needs)) at (w .answer-open .ensures))
-
 same-length-4 : tie.Need-same-length-4
 same-length-4 c = search needs
 
-same-length-5 : tie.Need-same-length-5
-same-length-5 c = search needs
-
-same-length-6 : tie.Need-same-length-6
-same-length-6 c = search needs
-
-returns-2 : tie.Need-returns-2
-returns-2 c =
-    let w = c .before .before .before .before in
-    let k = c .before .before .before .before .before .before .before .before .before .call2 in
-    rw (k .given .1) (simp (held w32 (k .given .0 .0) (search needs)) at (w .answer-clock .ensures))
-
-same-length-7 : tie.Need-same-length-7
-same-length-7 c = search needs
-
-same-length-8 : tie.Need-same-length-8
-same-length-8 c = search needs
-
-same-length-9 : tie.Need-same-length-9
-same-length-9 c = search needs
-
-returns-3 : tie.Need-returns-3
-returns-3 c =
-    let w = c .before .before .before .before in
-    let k = c .before .before .before .before .before .before .before .before .before .call3 in
-    rw (k .given .1) (w .answer-add .ensures)
-
-same-length-10 : tie.Need-same-length-10
-same-length-10 c = search needs
-
-same-length-11 : tie.Need-same-length-11
-same-length-11 c = search needs
-
-same-length-12 : tie.Need-same-length-12
-same-length-12 c = search needs
-
-returns-4 : tie.Need-returns-4
-returns-4 c =
-    let w = c .before .before .before .before in
-    let k = c .before .before .before .before .before .before .before .before .before .call4 in
-    rw (k .given .1) (w .answer-update .ensures)
-
-same-length-13 : tie.Need-same-length-13
-same-length-13 c = search needs
-
-same-length-14 : tie.Need-same-length-14
-same-length-14 c = search needs
-
-same-length-15 : tie.Need-same-length-15
-same-length-15 c = search needs
-
-returns-5 : tie.Need-returns-5
-returns-5 c =
-    let w = c .before .before .before .before in
-    let k = c .before .before .before .before .before .before .before .before .before .call5 in
-    rw (k .given .1) (simp (held w32 (k .given .0 .0) (search needs), held w32 (k .given .0 .1 .0) (search needs)) at (w .answer-drop .ensures))
-
-same-length-16 : tie.Need-same-length-16
-same-length-16 c = search needs
-
-same-length-17 : tie.Need-same-length-17
-same-length-17 c = search needs
-
-same-length-18 : tie.Need-same-length-18
-same-length-18 c = search needs
-
-same-length-19 : tie.Need-same-length-19
-same-length-19 c = search needs
-
-returns-6 : tie.Need-returns-6
-returns-6 c =
-    let w = c .before .before .before .before in
-    let k = c .before .before .before .before .before .before .before .before .before .before .call6 in
-    rw (k .given .1) (simp (held w32 (k .given .0 .0) (search needs), held w32 (k .given .0 .1 .0) (search needs)) at (w .answer-ask .ensures))
-
-same-length-20 : tie.Need-same-length-20
-same-length-20 c = search needs
-
-returns-7 : tie.Need-returns-7
-returns-7 c =
+returns : tie.Need-returns
+returns c =
     let w = c .before .before in
-    let a = c .before .before .before .before .before .before .before .before in
-    rw (c .before .before .before .before .enum-told .given .1) (answers-no-call (a .args .store .now) (a .args .table .now) (a .args .out .now) (w .write-no-call .last .0) (w .write-no-call .result) (w .write-no-call .ensures))
+    let i = w .before .before .before in
+    let m = called i in
+    let a = start m in
+    answers-made (a .args .call) (entry a) (now (a .args .list)) (words (m .call .last .0) (m .call .last .1 .0)) (m .call .last .1 .1 .0) (m .call .result) (m .call .ensures) (a .pre .list-long)
+    (a .args .letter) (a .pre .letter-is) (now (a .args .out)) (w .write-answer .last .1 .1 .1 .0) (w .write-answer .result)
+    (rw (i .ids-told .ensures) at (w .write-answer .ensures))
 
 pub answer-call-spec : {M : Type 1} → statement M
-answer-call-spec = tie.close (tie.spec enum-known-call answer-open-requires enum-known-call-2 answer-clock-requires enum-known-call-3 answer-add-requires enum-known-call-4 answer-update-requires enum-known-call-5 answer-drop-requires enum-known-call-6 answer-ask-requires enum-told write-no-call-requires same-length same-length-2 same-length-3 returns same-length-4 same-length-5 same-length-6 returns-2 same-length-7 same-length-8 same-length-9 returns-3 same-length-10 same-length-11 same-length-12 returns-4 same-length-13 same-length-14 same-length-15 returns-5 same-length-16 same-length-17 same-length-18 same-length-19 returns-6 same-length-20 returns-7)
+answer-call-spec =
+    tie.close
+    (tie.spec
+    call-requires
+    ids-told-requires
+    slice-reshare-prefix-write-answer
+    slice-aggregate-write-answer
+    write-answer-requires
+    same-length
+    same-length-2
+    same-length-3
+    same-length-4
+    returns)

@@ -1,26 +1,44 @@
--- `session::answering::answer_open` meets its contract.
+-- `session::answering::answer_open` meets its contract: the ledger opens where the index does.
 -- Assumes nothing.
+use mathlib.Core.Path.{sym, subst}
+use mathlib.Core.List.{[]}
+use native.Mathlib.Omega.{arith}
+use denote.Ref.{now}
 use mir.Syntax.{w32}
 use Rattle.ints.proofs.Machine.{held}
+use Rattle.records.specs.Words.{Words, words}
 use Rattle.engine.specs.Index.{openOut}
 use Rattle.engine.specs.Gives.{Gives}
-use Rattle.engine.proofs.SmallAnswers.{open-small}
-use Rattle.session.proofs.AnswerLaws.{room-for, answers-open}
+use Rattle.engine.proofs.SmallAnswers.{SmallAnswer, open-small}
+use Rattle.lines.specs.Lines.{letterOf}
+use Rattle.session.proofs.AnswerLaws.{answer-room, answers-open}
 use borrow.Author.Needs.{needs}
 use Rattle.session.proofs.answering.answer_open.Statement.{statement}
 use Rattle.session.proofs.answering.answer_open.Tie as tie
 
+-- the entry
+abbrev start : tie.After-open → tie.Start
+start c = let s = c .before .before .before in s .before .before
+
+-- the words at entry
+abbrev entry : tie.Start → Words
+entry a = words (now (a .args .store)) (now (a .args .table))
+
+gives : (c : tie.After-open) → let a = start c in Gives (openOut (entry a) (a .args .t)) (c .«open» .result) (words (c .«open» .last .0) (c .«open» .last .1 .0))
+gives c = rw (held w32 (start c .args .t) (search needs)) at (c .«open» .ensures)
+
 open-requires : tie.Need-open-requires
 open-requires c κs = search needs
 
-gives : (c : tie.After-open) → Gives (openOut (c .before .before .before .before .args .store .now) (c .before .before .before .before .args .table .now) (c .before .before .before .before .args .t)) (c .open .result) (c .open .last .0) (c .open .last .1 .0)
-gives c = let a = c .before .before .before .before in rw (held w32 (a .args .t) (search needs)) at (c .open .ensures)
+slice-aggregate-write-answer : tie.Need-slice-aggregate-write-answer
+slice-aggregate-write-answer c = search needs
 
-tell-requires : tie.Need-tell-requires
-tell-requires c κs =
-    let k = c .before .before .before in
-    let a = c .before .before .before .before .before .before .before in
-    room-for (a .args .store .now) (a .args .table .now) (openOut (a .args .store .now) (a .args .table .now) (a .args .t) .answer) (open-small (a .args .store .now) (a .args .table .now) (a .args .t)) (k .open .result) (gives k .answer-is) (a .args .out .now) (a .pre .room)
+write-answer-requires : tie.Need-write-answer-requires
+write-answer-requires c κs =
+    let o = c .before .before .before .before in
+    let a = start o in
+    answer-room (o .«open» .result) [] (now (a .args .out))
+    (subst SmallAnswer (sym (gives o .answer-is)) (open-small (entry a) (a .args .t))) (omega arith) (a .pre .room)
 
 same-length : tie.Need-same-length
 same-length c = search needs
@@ -32,11 +50,16 @@ same-length-3 : tie.Need-same-length-3
 same-length-3 c = search needs
 
 returns : tie.Need-returns
+unfolding letterOf
 returns c =
-    let t = c .before .before in
-    let k = c .before .before .before .before .before .before in
-    let a = c .before .before .before .before .before .before .before .before .before .before in
-    answers-open (a .args .store .now) (a .args .table .now) (a .args .t) (a .pre .at-point) (k .open .result) (k .open .last .0) (k .open .last .1 .0) (gives k) (a .args .out .now) (t .tell .last .1 .1 .0) (t .tell .result) (t .tell .ensures)
+    let w = c .before .before in
+    let t = w .before .before .before in
+    let o = t .before .before in
+    let a = start o in
+    answers-open (entry a) (a .args .t) (a .pre .at-point) (o .«open» .result) (words (o .«open» .last .0) (o .«open» .last .1 .0)) (gives o)
+    (now (a .args .out)) (w .write-answer .last .1 .1 .1 .0) (w .write-answer .result) (w .write-answer .ensures)
 
 pub answer-open-spec : {M : Type 1} → statement M
-answer-open-spec = tie.close (tie.spec open-requires tell-requires same-length same-length-2 same-length-3 returns)
+answer-open-spec =
+    tie.close
+    (tie.spec open-requires slice-aggregate-write-answer write-answer-requires same-length same-length-2 same-length-3 returns)

@@ -11,7 +11,10 @@ widen-all-requires : tie.Need-widen-all-requires
 widen-all-requires c κs = (c .before .before .pre .table, c .before .before .pre .inside, c .before .before .pre .ranged)
 
 put-all-requires : tie.Need-put-all-requires
-put-all-requires c κs = (c .before .before .before .before .before .pre .store, c .before .before .before .before .before .pre .inside, c .before .before .before .before .before .pre .total)
+put-all-requires c κs =
+    let o = c .before .before .before .before in
+    let a = o .before in
+    (a .pre .store, a .pre .inside, a .pre .total)
 
 same-length : tie.Need-same-length
 same-length c = c .before .put-all .kept .0

@@ -45,16 +45,39 @@ part-move-up-end : tie.Need-part-move-up-end
 part-move-up-end c = omega (arith, words-room _ (c .before .before .before .before .pre .0), c .before .before .held-of .ensures, within _ _ _ (c .place-of .ensures))
 
 move-up-requires : tie.Need-move-up-requires
-move-up-requires c κs = simp (length-take, length-drop) (omega (arith, words-room _ (c .before .before .before .before .before .pre .0), c .before .before .before .held-of .ensures, within _ _ _ (c .before .place-of .ensures)))
+move-up-requires c κs =
+    let n = c .before .before .before in
+    let a = n .before .before in
+    simp (length-take, length-drop) (omega (arith, words-room _ (a .pre .0), n .held-of .ensures, within _ _ _ (c .before .place-of .ensures)))
 
 write-record-requires : tie.Need-write-record-requires
-write-record-requires c κs = let k = 7 * c .before .before .before .before .place-of .result + 7 in omega (arith, same-len-mid {X = ℤ} k (7 * c .before .before .before .before .before .before .held-of .result + 7 + 7 - k) (c .before .before .before .before .before .before .before .before .args .store .now) (c .before .before .move-up .last .0) (c .before .before .move-up .kept .0), words-room _ (c .before .before .before .before .before .before .before .before .pre .0), c .before .before .before .before .before .before .held-of .ensures, within _ _ _ (c .before .before .before .before .place-of .ensures))
+write-record-requires c κs =
+    let m = c .before .before in
+    let p = m .before .before in
+    let n = p .before .before in
+    let a = n .before .before in
+    let k = 7 * p .place-of .result + 7 in
+    let long = same-len-mid {X = ℤ} k (7 * n .held-of .result + 7 + 7 - k) (a .args .store .now) (m .move-up .last .0) (m .move-up .kept .0) in
+    omega (arith, long, words-room _ (a .pre .0), n .held-of .ensures, within _ _ _ (p .place-of .ensures))
 
 add-set-held : tie.Need-add-set-held
-add-set-held c = omega (arith, words-room _ (c .before .before .before .before .before .before .before .before .before .before .before .pre .0), c .before .before .before .before .before .before .before .before .before .held-of .ensures)
+add-set-held c =
+    let o = c .before .before .before .before in
+    let e = o .before .before .before .before in
+    let n = e .before in
+    let a = n .before .before in
+    omega (arith, words-room _ (a .pre .0), n .held-of .ensures)
 
 set-held-requires : tie.Need-set-held-requires
-set-held-requires c κs = let k = 7 * c .before .before .before .before .before .before .before .place-of .result + 7 in omega (arith, c .before .before .write-record .kept .0, same-len-mid {X = ℤ} k (7 * c .before .before .before .before .before .before .before .before .before .held-of .result + 7 + 7 - k) (c .before .before .before .before .before .before .before .before .before .before .before .args .store .now) (c .before .before .before .before .before .move-up .last .0) (c .before .before .before .before .before .move-up .kept .0), words-room _ (c .before .before .before .before .before .before .before .before .before .before .before .pre .0), c .before .before .before .before .before .before .before .before .before .held-of .ensures, c .before .before .before .before .before .before .before .before .before .before .before .pre .1)
+set-held-requires c κs =
+    let w = c .before .before in
+    let m = w .before .before .before in
+    let p = m .before .before in
+    let n = p .before .before in
+    let a = n .before .before in
+    let k = 7 * p .place-of .result + 7 in
+    let long = same-len-mid {X = ℤ} k (7 * n .held-of .result + 7 + 7 - k) (a .args .store .now) (m .move-up .last .0) (m .move-up .kept .0) in
+    omega (arith, w .write-record .kept .0, long, words-room _ (a .pre .0), n .held-of .ensures, a .pre .1)
 
 same-length : tie.Need-same-length
 same-length c = search needs

@@ -20,7 +20,10 @@ returns : tie.Need-returns
 returns c = search (remove-none, index-read, has-words)
 
 remove-at-requires : tie.Need-remove-at-requires
-remove-at-requires c κs = (has-words _ (c .before .before .before .before .before .before .pre), omega (arith, c .before .before .held-of .ensures))
+remove-at-requires c κs =
+    let n = c .before .before in
+    let a = n .before .before .before .before in
+    (has-words _ (a .pre), omega (arith, n .held-of .ensures))
 
 same-length-2 : tie.Need-same-length-2
 same-length-2 c = search needs

@@ -45,7 +45,12 @@ sub-set-held : tie.Need-sub-set-held
 sub-set-held c = omega arith
 
 set-held-requires : tie.Need-set-held-requires
-set-held-requires c κs = let k = 7 * c .before .before .before .before .before .before .args .i + 7 in omega (arith, same-len-mid {X = ℤ} k (7 * c .before .before .before .before .held-of .result + 7 - k) (c .before .before .before .before .before .before .args .store .now) (c .before .before .close-up .last .0) (c .before .before .close-up .kept .0), words-room _ (c .before .before .before .before .before .before .pre .0), c .before .before .before .before .held-of .ensures)
+set-held-requires c κs =
+    let u = c .before .before in
+    let n = u .before .before in
+    let a = n .before .before in
+    let k = 7 * a .args .i + 7 in
+    omega (arith, same-len-mid {X = ℤ} k (7 * n .held-of .result + 7 - k) (a .args .store .now) (u .close-up .last .0) (u .close-up .kept .0), words-room _ (a .pre .0), n .held-of .ensures)
 
 same-length : tie.Need-same-length
 same-length c = search needs

@@ -17,37 +17,79 @@ keep-live-requires : tie.Need-keep-live-requires
 keep-live-requires c κs = c .before .before .before .before .pre
 
 mul-start : tie.Need-mul-start
-mul-start c = omega (arith, store-room _ (c .before .before .before .before .before .before .before .pre .0), c .before .before .keep-live .ensures .0 .within)
+mul-start c =
+    let g = c .before .before in
+    let o = g .before .before .before .before in
+    let a = o .before in
+    omega (arith, store-room _ (a .pre .0), g .keep-live .ensures .0 .within)
 
 add-start : tie.Need-add-start
-add-start c = omega (arith, store-room _ (c .before .before .before .before .before .before .before .pre .0), c .before .before .keep-live .ensures .0 .within)
+add-start c =
+    let g = c .before .before in
+    let o = g .before .before .before .before in
+    let a = o .before in
+    omega (arith, store-room _ (a .pre .0), g .keep-live .ensures .0 .within)
 
 mul-end : tie.Need-mul-end
-mul-end c = omega (arith, store-room _ (c .before .before .before .before .before .before .before .pre .0), c .before .before .before .before .before .held-of .ensures)
+mul-end c =
+    let o = c .before .before .before .before in
+    let n = o .before in
+    let a = n .before .before in
+    omega (arith, store-room _ (a .pre .0), n .held-of .ensures)
 
 add-end : tie.Need-add-end
-add-end c = omega (arith, store-room _ (c .before .before .before .before .before .before .before .pre .0), c .before .before .before .before .before .held-of .ensures)
+add-end c =
+    let o = c .before .before .before .before in
+    let n = o .before in
+    let a = n .before .before in
+    omega (arith, store-room _ (a .pre .0), n .held-of .ensures)
 
 mul-clear : tie.Need-mul-clear
-mul-clear c = search needs
+mul-clear c =
+    let k = c .before .before in
+    let n = k .before .before .before in
+    let a = n .before .before in
+    omega (arith, store-room _ (a .pre .0), k .keep-live .ensures .0 .within, n .held-of .ensures)
 
 sub-clear : tie.Need-sub-clear
-sub-clear c = omega (arith, c .before .before .keep-live .ensures .0 .within, c .before .before .before .before .before .held-of .ensures)
+sub-clear c =
+    let g = c .before .before in
+    let n = g .before .before .before in
+    omega (arith, g .keep-live .ensures .0 .within, n .held-of .ensures)
 
 part-clear-start : tie.Need-part-clear-start
-part-clear-start c = omega (arith, c .before .before .keep-live .ensures .0 .within, c .before .before .before .before .before .held-of .ensures)
+part-clear-start c =
+    let g = c .before .before in
+    let n = g .before .before .before in
+    omega (arith, g .keep-live .ensures .0 .within, n .held-of .ensures)
 
 part-clear-end : tie.Need-part-clear-end
-part-clear-end c = omega (arith, c .before .before .keep-live .kept .0, store-room _ (c .before .before .before .before .before .before .before .pre .0), c .before .before .before .before .before .held-of .ensures)
+part-clear-end c =
+    let g = c .before .before in
+    let n = g .before .before .before in
+    let a = n .before .before in
+    omega (arith, g .keep-live .kept .0, store-room _ (a .pre .0), n .held-of .ensures)
 
 clear-requires : tie.Need-clear-requires
 clear-requires c κs = search needs
 
 set-held-requires : tie.Need-set-held-requires
-set-held-requires c κs = let k = 7 * c .before .before .before .before .before .before .keep-live .result + 7 in let room = store-room _ (c .before .before .before .before .before .before .before .before .before .before .before .pre .0) in (omega (arith, room, c .before .before .before .before .before .before .keep-live .kept .0, same-len-mid {X = ℤ} k (7 * c .before .before .before .before .before .before .before .before .before .held-of .result + 7 - k) (c .before .before .before .before .before .before .keep-live .last .0) (c .before .before .clear .last .0) (c .before .before .clear .kept .0)), omega (arith, room, c .before .before .before .before .before .before .keep-live .ensures .0 .within))
+set-held-requires c κs =
+    let l = c .before .before in
+    let g = l .before .before .before .before in
+    let n = g .before .before .before in
+    let a = n .before .before in
+    let k = 7 * g .keep-live .result + 7 in
+    let room = store-room _ (a .pre .0) in
+    let long = same-len-mid {X = ℤ} k (7 * n .held-of .result + 7 - k) (g .keep-live .last .0) (l .clear .last .0) (l .clear .kept .0) in
+    (omega (arith, room, g .keep-live .kept .0, long), omega (arith, room, g .keep-live .ensures .0 .within))
 
 sub-result : tie.Need-sub-result
-sub-result c = omega (arith, c .before .before .before .before .before .before .before .before .keep-live .ensures .0 .within, c .before .before .before .before .before .before .before .before .before .before .before .held-of .ensures)
+sub-result c =
+    let o = c .before .before .before .before in
+    let g = o .before .before .before .before in
+    let n = g .before .before .before in
+    omega (arith, g .keep-live .ensures .0 .within, n .held-of .ensures)
 
 same-length : tie.Need-same-length
 same-length c = search needs
@@ -56,7 +98,15 @@ same-length-2 : tie.Need-same-length-2
 same-length-2 c = search needs
 
 returns : tie.Need-returns
-returns c = (taken-out _ _ _ _ _ _ _ _ (c .before .before .before .before .before .before .before .before .before .before .before .before .before .pre .0) (c .before .before .before .before .before .before .before .before .before .before .before .held-of .ensures) (c .before .before .before .before .before .before .before .before .keep-live .ensures .0) (c .before .before .before .before .before .before .before .before .keep-live .kept .0) (c .before .before .before .before .clear .ensures) (c .before .set-held .ensures), rw (c .before .before .before .before .before .before .before .before .before .before .before .held-of .ensures) (c .before .before .before .before .before .before .before .before .keep-live .ensures .1))
+returns c =
+    let h = c .before in
+    let l = h .before .before .before in
+    let k = l .before .before .before .before in
+    let n = k .before .before .before in
+    let a = n .before .before in (
+      taken-out _ _ _ _ _ _ _ (a .pre .0) (n .held-of .ensures) (k .keep-live .ensures .0) (k .keep-live .kept .0) (l .clear .ensures) (h .set-held .ensures),
+      rw (n .held-of .ensures) (k .keep-live .ensures .1),
+    )
 
 pub take-dead-spec : {M : Type 1} → statement M
 take-dead-spec =

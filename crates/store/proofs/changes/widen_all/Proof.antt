@@ -33,7 +33,11 @@ loop-less : tie.Need-loop-less Inv-loop μ-loop
 loop-less c = search needs
 
 loop-again : tie.Need-loop-again Inv-loop μ-loop
-loop-again c = widen-more _ _ _ _ _ (c .before .before .before .before .before .loop .inv) (c .before .before .before .before .loop-test .taken) _ (c .before .before .read-from .ensures) _ (c .before .widen .ensures)
+loop-again c =
+    let r = c .before .before in
+    let l = r .before .before in
+    let at = l .before in
+    widen-more _ _ _ _ _ (at .loop .inv) (l .loop-test .taken) _ (r .read-from .ensures) _ (c .before .widen .ensures)
 
 same-length : tie.Need-same-length Inv-loop μ-loop
 same-length c = (c .before .loop .inv) .table ∙ sym (c .before .before .pre .0)

@@ -1,0 +1,194 @@
+-- What an ask reads in the live phases of a sound store and table: in each phase exactly the records that are placed in it and are to be listed.
+-- Assumes nothing.
+use mathlib.Core.Path.{_≡_, sym, ap, ap₂, _∙_}
+use mathlib.Core.Bool.{Bool, true, false, _&&_, not}
+use mathlib.Core.List.{List·Memᴰ}
+use Prim.Native.Nat.{ℕ, _*_}
+use native.Mathlib.Omega.{arith}
+use lib.Dec.{eqb}
+use lib.IntN.{ℤ, pos, _+ℤ_, _-ℤ_}
+use lib.ListN.{length}
+use lib.Signed.{leZ}
+use borrow.Author.Tests.{eqb-true, eq-eqb, not-false}
+use Rattle.ints.specs.Whole.{between, up}
+use Rattle.ints.proofs.Parts.{signed, add, sub, le-true}
+use Rattle.ints.proofs.Truth.{same-truth, and-true, and-left, and-right, or-neither}
+use Rattle.ints.proofs.Members.{passing, passing-same}
+use Rattle.grid.specs.Curve.{curveNumber}
+use Rattle.grid.specs.Reports.{isTime, isPosition, xAt, yAt, cellAtTime, isListed}
+use Rattle.grid.specs.declared.Query.{Query}
+use Rattle.grid.specs.declared.Rect.{Rect}
+use Rattle.grid.proofs.Places.{cell-on}
+use Rattle.grid.proofs.Curve.{number-below}
+use Rattle.rows.specs.Phases.{phaseOf, referenceTime, isLive, livePhases, slotOf}
+use Rattle.rows.specs.Table.{rowAt}
+use Rattle.rows.proofs.PhaseLaws.{phase-is, live-range, same-slot, slot-on, listed-live}
+use Rattle.rows.proofs.TableLaws.{valid-row-at}
+use Rattle.methods.specs.Aims.{sliceOf, placedBy, heldBy}
+use Rattle.methods.specs.Fair.{InOrder}
+use Rattle.methods.specs.Chosen.{rowsOfSlot, IsSlice, IsAsk}
+use Rattle.methods.specs.Claims.{ValidRows}
+use Rattle.methods.proofs.Claims.{listed-is-read}
+use Rattle.methods.proofs.SetLaws.{mark-of-cell}
+use Rattle.records.specs.Words.{Words, timeIn, recordsIn}
+use Rattle.records.specs.Order.{slotOfKey, numberOfKey, phaseOfKey}
+use Rattle.records.specs.declared.Record.{Record}
+use Rattle.records.proofs.SoundLawsRanges.{time-from}
+use Rattle.records.proofs.SoundLawsKeys.{number-of-key-in}
+use Rattle.records.proofs.SoundLaws.{SoundRecord, all-sound-each, speeds-each, Sound}
+use Rattle.reading.specs.Reading.{inSet, isRead}
+use Rattle.reading.proofs.ListedLaws.{listed-is}
+use Rattle.ledger.specs.Refusals.{badAskTime, badAsk, isRectangle}
+use Rattle.ledger.specs.declared.Ask.{Ask}
+use Rattle.ledger.proofs.SumLaws.{summed-same, phases-summed}
+use Rattle.asking.specs.Asking.{choiceOf, marksIn, listedOf, idsNeeded}
+
+-- ---- what an ask that is not declined for its numbers asks for
+
+pub good-method : (ask : Ask) → badAsk ask ≡ false → between (pos 0) (pos 3) (ask .method) ≡ true
+good-method ask k = and-left _ (isRectangle (ask .query .rect)) (not-false _ k)
+
+pub record FitAsk (now : ℤ) (query : Query) : Type 0 where
+  pub is-time : isTime (query .time) ≡ true
+  pub near : between (now -ℤ pos 3600) (now +ℤ pos 7200) (query .time) ≡ true
+  pub is-rectangle : isRectangle (query .rect) ≡ true
+
+pub fit-ask : (now : ℤ) (ask : Ask) → badAskTime now (ask .query) ≡ false → badAsk ask ≡ false → FitAsk now (ask .query)
+fit-ask now ask h k =
+    let asked = ask .query .time in
+    let near = between (now -ℤ pos 3600) (now +ℤ pos 7200) asked in
+    let neither = or-neither (not (isTime asked)) (not near) h in
+    record {
+      is-time = not-false (isTime asked) (neither .0);
+      near = not-false near (neither .1);
+      is-rectangle = and-right (between (pos 0) (pos 3) (ask .method)) _ (not-false _ k);
+    }
+
+module _ (now : ℤ) (query : Query) (fit : FitAsk now query) where
+  abbrev q : Rect
+  q = query .rect
+
+  abbrev seaX : Bool
+  seaX = isPosition (q .x .low) && isPosition (q .x .high)
+
+  abbrev seaY : Bool
+  seaY = isPosition (q .y .low) && isPosition (q .y .high)
+
+  abbrev ordered : Bool
+  ordered = leZ (q .x .low) (q .x .high) && leZ (q .y .low) (q .y .high)
+
+  parts : (seaX && seaY) && ordered ≡ true
+  unfolding isRectangle
+  parts = fit .is-rectangle
+
+  pub fit-in-order : InOrder q
+  fit-in-order =
+      let o = and-right (seaX && seaY) ordered parts in
+      record { x-ordered = and-left (leZ (q .x .low) (q .x .high)) _ o; y-ordered = and-right (leZ (q .x .low) (q .x .high)) _ o }
+
+  -- in a live phase d is from -3,600 to 17,999
+  fit-slice : isTime now ≡ true → (p : ℕ) → isLive (phaseOf now) p ≡ true → IsSlice (sliceOf p query)
+  unfolding referenceTime
+  fit-slice time p live =
+      let asked = query .time in
+      let t = time-from now time in
+      let range = live-range (phaseOf now) p live in
+      let phase = phase-is now in
+      let low = sub now (pos 3600) in
+      let high = add now (pos 7200) in
+      let d = sub asked (pos (3600 * p)) in
+      let early = le-true (now -ℤ pos 3600) asked (and-left _ (leZ asked (now +ℤ pos 7200)) (fit .near)) in
+      let late = le-true asked (now +ℤ pos 7200) (and-right (leZ (now -ℤ pos 3600) asked) _ (fit .near)) in
+      record { in-order = fit-in-order; not-early = omega (arith, signed); not-late = omega (arith, signed) }
+
+  pub asked-in : isTime now ≡ true → (p : ℕ) → isLive (phaseOf now) p ≡ true → IsAsk (sliceOf p query)
+  asked-in time p live =
+      let sea = and-left (seaX && seaY) ordered parts in
+      let x = and-left seaX seaY sea in
+      let y = and-right seaX seaY sea in
+      record {
+        low-x-in-sea = and-left (isPosition (q .x .low)) _ x;
+        high-x-in-sea = and-right (isPosition (q .x .low)) _ x;
+        low-y-in-sea = and-left (isPosition (q .y .low)) _ y;
+        high-y-in-sea = and-right (isPosition (q .y .low)) _ y;
+        is-slice = fit-slice time p live;
+      }
+
+-- ---- reading in the live phases
+
+-- the live phase of a record, and whether a record is placed in a phase and to be listed
+abbrev pub phaseOfRecord : ℤ → Record → ℕ
+phaseOfRecord now r = phaseOfKey (phaseOf now) (r .key)
+
+abbrev pub isInside : Query → Record → Bool
+isInside query r = isListed query (r .report)
+
+abbrev pub isInsideIn : ℤ → Query → ℕ → Record → Bool
+isInsideIn now query p r = eqb (phaseOfRecord now r) p && isInside query r
+
+module _ (w : Words) (sound : Sound (w .store) (w .table)) (ask : Ask) (fit : FitAsk (timeIn w) (ask .query)) where
+  pub float-at : {r : Record} → List·Memᴰ r (recordsIn w) → SoundRecord (timeIn w) r
+  float-at {r} m = all-sound-each (timeIn w) (recordsIn w) (sound .store .sound) r m
+
+  pub valid-rows : (p : ℕ) → ValidRows (rowsOfSlot (w .table) (slotOf p))
+  valid-rows p c on = valid-row-at (w .table) (sound .valid) (slotOf p) (curveNumber c) (slot-on p) (number-below c on)
+
+  -- the cell of a record to be listed is marked in the record's phase: its row holds its speeds, so no method leaves the cell out
+  own-mark : {r : Record} → List·Memᴰ r (recordsIn w) → isInside (ask .query) r ≡ true → inSet (marksIn w ask (phaseOfRecord (timeIn w) r)) (numberOfKey (r .key)) ≡ true
+  own-mark {r} m h =
+      let placed = float-at m .placed in
+      let p = phaseOfRecord (timeIn w) r in
+      let float = r .report in
+      let from = referenceTime p in
+      let own = cellAtTime float from in
+      let rows = rowsOfSlot (w .table) (slotOf p) in
+      let number : numberOfKey (r .key) ≡ curveNumber own = ap numberOfKey (placed .key-is) ∙ number-of-key-in p float in
+      let row : heldBy (rows own) (placedBy p float) ≡ true =
+      sym (ap₂ (λ (a b : ℕ). heldBy (rowAt (w .table) a b) (placedBy p float)) (placed .slot-is) number) ∙ speeds-each (w .table) (recordsIn w) (sound .speeds) r m in
+      let chosen = listed-is-read rows (valid-rows p) p (ask .query) (fit-in-order (timeIn w) (ask .query) fit) float row h (up (ask .method)) in
+      ap (inSet (marksIn w ask p)) number ∙ mark-of-cell (choiceOf w ask p .cells) own (cell-on (xAt float from) (yAt float from)) chosen
+
+  -- a live phase reads exactly the records placed in it that are to be listed
+  read-is :
+      (p : ℕ)
+      → isLive (phaseOf (timeIn w)) p ≡ true
+      → {r : Record}
+      → List·Memᴰ r (recordsIn w)
+      → isRead (marksIn w ask p) (slotOf p) (isListed (ask .query)) r ≡ isInsideIn (timeIn w) (ask .query) p r
+  read-is p live {r} m =
+      let placed = float-at m .placed in
+      let own = phaseOfRecord (timeIn w) r in
+      let number = numberOfKey (r .key) in
+      let slot = eqb (slotOfKey (r .key)) (slotOf p) in
+      let set = inSet (marksIn w ask p) number in
+      same-truth _ _
+      (λ h.
+      let front = and-left (slot && set) (isInside (ask .query) r) h in
+      let there = eqb-true (slotOfKey (r .key)) (slotOf p) (and-left slot set front) in
+      and-true _ _
+      (eq-eqb own p (same-slot (phaseOf (timeIn w)) own p (placed .live) live (sym (placed .slot-is) ∙ there)))
+      (and-right (slot && set) (isInside (ask .query) r) h))
+      (λ h.
+      let e = eqb-true own p (and-left (eqb own p) (isInside (ask .query) r) h) in
+      let inside = and-right (eqb own p) (isInside (ask .query) r) h in
+      and-true _ _
+      (and-true slot set (eq-eqb (slotOfKey (r .key)) (slotOf p) (placed .slot-is ∙ ap slotOf e))
+      (sym (ap (λ (k : ℕ). inSet (marksIn w ask k) number) e) ∙ own-mark m inside))
+      inside)
+
+  pub listed-of-phase : (p : ℕ) → isLive (phaseOf (timeIn w)) p ≡ true → listedOf w ask p ≡ passing (isInsideIn (timeIn w) (ask .query) p) (recordsIn w)
+  listed-of-phase p live =
+      listed-is (marksIn w ask p) (slotOf p) (isListed (ask .query)) (recordsIn w)
+      ∙ passing-same (isRead (marksIn w ask p) (slotOf p) (isListed (ask .query))) (isInsideIn (timeIn w) (ask .query) p) (recordsIn w)
+      (λ r m. read-is p live m)
+
+  -- the ids needed are as many as the records to be listed
+  pub needed-is : idsNeeded w ask ≡ length (passing (isInside (ask .query)) (recordsIn w))
+  unfolding idsNeeded
+  needed-is =
+      summed-same
+      (λ p. length (listedOf w ask p))
+      (λ p. length (passing (isInsideIn (timeIn w) (ask .query) p) (recordsIn w)))
+      (livePhases (phaseOf (timeIn w)))
+      (λ p m. ap length (listed-of-phase p (listed-live (phaseOf (timeIn w)) p m)))
+      ∙ phases-summed (phaseOfRecord (timeIn w)) (isInside (ask .query)) (phaseOf (timeIn w)) (recordsIn w) (λ r m. float-at m .placed .live)

@@ -1,0 +1,33 @@
+-- What is claimed of asks over every sound store and table, reached or not: S3. Stated over the records alone, with no cells in it.
+-- Assumes nothing.
+use mathlib.Core.Path.{_≡_}
+use mathlib.Core.Bool.{true, false, cond}
+use mathlib.Core.List.{List, [], _∷_}
+use Prim.Native.Nat.{ℕ}
+use lib.ListN.{length}
+use Rattle.ints.specs.Whole.{up}
+use Rattle.grid.specs.Reports.{isListed}
+use Rattle.grid.specs.declared.Query.{Query}
+use Rattle.records.specs.Words.{Words, timeIn, recordsIn, areSound}
+use Rattle.records.specs.declared.Record.{Record}
+use Rattle.ledger.specs.Refusals.{badAskTime, badAsk}
+use Rattle.ledger.specs.Machine.{putInOrder}
+use Rattle.ledger.specs.declared.Ask.{Ask}
+use Rattle.asking.specs.Asking.{idsNeeded, idsFound}
+
+-- the ids of the records that a query lists, those whose position at its time is in its rectangle, by rising number
+unfoldable pub idsInside : Query → List Record → List ℕ
+idsInside query [] = []
+idsInside query (r ∷ rs) =
+    cond (isListed query (r .report)) (putInOrder (up (r .report .id)) (idsInside query rs)) (idsInside query rs)
+
+-- S3: the ids that an accepted ask writes are those of all held records whose position at the asked time is inside
+abbrev pub ListIsExact : Type 0
+ListIsExact =
+    (w : Words)
+    → areSound w ≡ true
+    → (ask : Ask)
+    → badAskTime (timeIn w) (ask .query) ≡ false
+    → badAsk ask ≡ false
+    → (idsFound w ask ≡ idsInside (ask .query) (recordsIn w))
+    × (idsNeeded w ask ≡ length (idsInside (ask .query) (recordsIn w)))

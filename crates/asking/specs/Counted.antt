@@ -1,0 +1,108 @@
+-- What the functions of an ask need of sound words, and what asking in one live phase, and in several, gives back: the sums that an ask's counts
+-- are. Nothing here is part of what a reader must believe.
+-- Assumes nothing.
+use mathlib.Core.Path.{_≡_}
+use mathlib.Core.Bool.{true, false}
+use mathlib.Core.List.{List, [], _∷_}
+use Prim.Native.Nat.{ℕ, suc, _+_, _≤_}
+use lib.Dec.{ltb}
+use lib.IntN.{ℤ, pos}
+use lib.ListN.{length, replicate}
+use Rattle.ints.specs.Whole.{between}
+use Rattle.grid.specs.Reports.{isListed}
+use Rattle.grid.specs.Small.{SmallQuery}
+use Rattle.grid.specs.Units.{cells, lastId}
+use Rattle.grid.specs.declared.Query.{Query}
+use Rattle.rows.specs.Phases.{phaseOf, isLive, slotOf}
+use Rattle.methods.specs.Aims.{sliceOf}
+use Rattle.methods.specs.Chosen.{IsSlot, IsAsk}
+use Rattle.methods.specs.Given.{CanSee}
+use Rattle.records.specs.Soundness.{IsStore}
+use Rattle.records.specs.Words.{Words, timeIn, areSound}
+use Rattle.reading.specs.Reading.{cellsIn, listedIn, usefulIn, withIds, ReadingOf, SmallReading, ReadTogether}
+use Rattle.records.specs.declared.Record.{Record}
+use Rattle.reading.specs.declared.Reading.{Reading}
+use Rattle.ledger.specs.Machine.{summed}
+use Rattle.ledger.specs.Refusals.{Check, check, firstToFail, badAskTime, badAsk}
+use Rattle.ledger.specs.declared.Ask.{Ask}
+use Rattle.ledger.specs.declared.Refusal.the-variants.{ListTooShort}
+use Rattle.asking.specs.Asking.{choiceOf, marksIn, listedOf, foundIn, idsNeeded, AskOutcome, askSettled}
+use Rattle.asking.specs.declared.Counts.{Counts}
+
+-- sound words and an ask whose numbers are good
+pub record CanAsk (w : Words) (ask : Ask) : Type 0 where
+  pub sound : areSound w ≡ true
+  pub good-time : badAskTime (timeIn w) (ask .query) ≡ false
+  pub good-numbers : badAsk ask ≡ false
+
+-- the same with marks for all ids, and in one of its live phases
+pub record CanAskAll (w : Words) (ask : Ask) (found : List ℕ) : Type 0 where
+  pub can-ask : CanAsk w ask
+  pub all-marks : length found ≡ 65536
+
+pub record CanAskIn (w : Words) (ask : Ask) (p : ℕ) (found : List ℕ) : Type 0 where
+  pub can-ask : CanAsk w ask
+  pub live : isLive (phaseOf (timeIn w)) p ≡ true
+  pub all-marks : length found ≡ 65536
+
+-- no id marked
+unfoldable pub noIds : List ℕ
+noIds = replicate (suc lastId) 0
+
+pub record CanAskFirst (w : Words) (ask : Ask) (found : List ℕ) : Type 0 where
+  pub can-ask : CanAsk w ask
+  pub none-marked : found ≡ noIds
+
+-- the check that wants the ids found: an answer list with so much room
+abbrev pub roomChecks : ℕ → ℕ → List Check
+roomChecks room needed = check (ltb room needed) (ListTooShort needed) ∷ []
+
+-- what an ask gives back where every other check is passed
+abbrev pub settledByRoom : Words → Ask → List ℕ → AskOutcome
+settledByRoom w ask list = askSettled (firstToFail (roomChecks (length list) (idsNeeded w ask))) w ask list
+
+-- rows, a method and a query that a choice in phase p can be made by
+pub record CanChooseIn (t : List ℤ) (ask : Ask) (p : ℕ) : Type 0 where
+  pub slot : IsSlot t (slotOf p)
+  pub can-see : CanSee (ask .query) p
+  pub is-ask : IsAsk (sliceOf p (ask .query))
+  pub good-method : between (pos 0) (pos 3) (ask .method) ≡ true
+
+-- a store in which any set of cells can be read, with marks for all ids
+pub record CanReadIn (s : List ℤ) (query : Query) (found : List ℕ) : Type 0 where
+  pub is-store : IsStore s
+  pub small : SmallQuery query
+  pub all-marks : length found ≡ 65536
+
+-- what reading a set of cells of phase p gives back, and the marks of the ids found before and after
+pub record ReadIn (marks : List ℕ) (p : ℕ) (query : Query) (rs : List Record) (before after : List ℕ) (r : Reading) : Type 0 where
+  pub reading-is : ReadingOf marks (slotOf p) (isListed query) rs r
+  pub found-are : after ≡ withIds before (listedIn marks (slotOf p) (isListed query) rs)
+
+-- counts that are small: no sum of three leaves a machine word
+pub record SmallCounts (most : ℕ) (c : Counts) : Type 0 where
+  pub few-read : SmallReading most (c .read)
+  pub few-rounds : c .rounds ≤ most
+
+-- the counts of two phases summed
+pub record CountedTogether (a b r : Counts) : Type 0 where
+  pub read-sum : ReadTogether (a .read) (b .read) (r .read)
+  pub rounds-sum : r .rounds ≡ a .rounds + b .rounds
+
+module _ (w : Words) (ask : Ask) where
+  -- in phase p: the counts, and the marks of the ids found before and after
+  pub record CountedIn (p : ℕ) (before after : List ℕ) (c : Counts) : Type 0 where
+    pub listed-are : c .read .listed ≡ length (listedOf w ask p)
+    pub cells-are : c .read .cells ≡ cellsIn (marksIn w ask p) 0 cells
+    pub useful-are : c .read .useful ≡ usefulIn (slotOf p) (listedOf w ask p) 0 cells
+    pub rounds-are : c .rounds ≡ choiceOf w ask p .rounds
+    pub found-are : after ≡ withIds before (listedOf w ask p)
+    pub small : SmallCounts 65536 c
+
+  -- in each of some phases, summed
+  pub record CountedOver (ps : List ℕ) (before after : List ℕ) (c : Counts) : Type 0 where
+    pub listed-are : c .read .listed ≡ summed (λ p. length (listedOf w ask p)) ps
+    pub cells-are : c .read .cells ≡ summed (λ p. cellsIn (marksIn w ask p) 0 cells) ps
+    pub useful-are : c .read .useful ≡ summed (λ p. usefulIn (slotOf p) (listedOf w ask p) 0 cells) ps
+    pub rounds-are : c .rounds ≡ summed (λ p. choiceOf w ask p .rounds) ps
+    pub found-are : after ≡ foundIn w ask before ps

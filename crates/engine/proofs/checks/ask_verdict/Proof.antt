@@ -1,0 +1,35 @@
+-- `engine::checks::ask_verdict` meets its contract: the time first, then the other numbers.
+-- Assumes nothing.
+use mathlib.Core.Path.{sym, _∙_}
+use borrow.Author.Needs.{needs}
+use native.Mathlib.Omega.{arith}
+use Rattle.records.proofs.RecordLaws.{store-words-of}
+use Rattle.ledger.specs.declared.Refusal.the-variants.{BadTime, BadNumber}
+use Rattle.ledger.proofs.VerdictLaws.{fails, passes, none-fails}
+use Rattle.engine.proofs.checks.ask_verdict.Statement.{statement}
+use Rattle.engine.proofs.checks.ask_verdict.Tie as tie
+
+bad-ask-time-requires : tie.Need-bad-ask-time-requires
+bad-ask-time-requires c κs = omega (arith, store-words-of (c .args .store .now) (c .pre))
+
+returns : tie.Need-returns
+returns c = fails _ BadTime _ (sym (c .before .bad-ask-time .ensures) ∙ c .if1 .taken)
+
+bad-ask-requires : tie.Need-bad-ask-requires
+bad-ask-requires c κs = search needs
+
+returns-2 : tie.Need-returns-2
+returns-2 c =
+    let g = c .before .before in
+    passes _ BadTime _ _ (sym (g .before .bad-ask-time .ensures) ∙ g .if1 .left)
+    (fails _ BadNumber _ (sym (c .before .bad-ask .ensures) ∙ c .if2 .taken))
+
+returns-3 : tie.Need-returns-3
+returns-3 c =
+    let g = c .before .before in
+    passes _ BadTime _ _ (sym (g .before .bad-ask-time .ensures) ∙ g .if1 .left)
+    (passes _ BadNumber _ _ (sym (c .before .bad-ask .ensures) ∙ c .if2 .left) none-fails)
+
+pub ask-verdict-spec : {M : Type 1} → statement M
+ask-verdict-spec =
+    tie.close (tie.spec bad-ask-time-requires returns bad-ask-requires returns-2 returns-3)

@@ -1,0 +1,15 @@
+-- `lines::reading::wide` meets its contract: every 32-bit number fits 64 bits.
+-- Assumes nothing.
+use mir.Syntax.{w32, w64}
+use Rattle.ints.proofs.Machine.{wide-fits, wide-back}
+use Rattle.lines.proofs.reading.wide.Statement.{statement}
+use Rattle.lines.proofs.reading.wide.Tie as tie
+
+cast-result : tie.Need-cast-result
+cast-result c = search (wide-fits w32 w64 tt)
+
+returns : tie.Need-returns
+returns c = search (wide-back w32 w64 tt)
+
+pub wide-spec : {M : Type 1} → statement M
+wide-spec = tie.close (tie.spec cast-result returns)

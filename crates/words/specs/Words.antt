@@ -1,0 +1,49 @@
+-- What an open, a clock step, a report placed and a float taken out make of the lent words: document 01, "Store and table" and "Phases and
+-- speed rows".
+-- Assumes nothing.
+use mathlib.Core.List.{List, []}
+use lib.IntN.{ℤ}
+use Rattle.grid.specs.declared.Report.{Report}
+use Rattle.rows.specs.Phases.{phaseOf}
+use Rattle.rows.specs.Table.{withSpeed, withSlotEmpty, withNewlyLiveEmpty}
+use Rattle.records.specs.Records.{storeOf}
+use Rattle.records.specs.Order.{slotOfKey, numberOfKey}
+use Rattle.records.specs.Words.{Words, timeIn, recordsIn}
+use Rattle.records.specs.declared.Record.{Record}
+use Rattle.store.specs.Changes.{inserted, removed, placedIn, moves, replaced, steppedRecords, withSpeeds}
+
+-- that time, no float held, every row empty
+unfoldable pub opened : ℤ → Words → Words
+opened time w = record {
+  store = storeOf time [];
+  table = withSlotEmpty (withSlotEmpty (withSlotEmpty (w .table) 0) 1) 2;
+}
+
+-- ---- the clock step
+
+-- the rows of every newly live phase emptied; then the row of each re-placed float widened
+unfoldable pub tableStepped : ℤ → ℤ → List Record → List ℤ → List ℤ
+tableStepped now time rs t =
+    withSpeeds (withNewlyLiveEmpty t (phaseOf now) (phaseOf time)) (replaced (phaseOf time) (moves now time) rs)
+
+unfoldable pub stepped : ℤ → Words → Words
+stepped time w = record {
+  store = storeOf time (steppedRecords (timeIn w) time (recordsIn w));
+  table = tableStepped (timeIn w) time (recordsIn w) (w .table);
+}
+
+-- ---- what a change does after it
+
+-- the row of a record's cell widened by its speeds
+abbrev pub widenedBy : List ℤ → Record → List ℤ
+widenedBy t r = withSpeed t (slotOfKey (r .key)) (numberOfKey (r .key)) (r .report .vx) (r .report .vy)
+
+-- a report placed in the phase of its time: its record put in, its row widened
+unfoldable pub placed : Report → Words → Words
+placed r w =
+    let new = placedIn (phaseOf (r .t)) r in
+    record { store = storeOf (timeIn w) (inserted new (recordsIn w)); table = widenedBy (w .table) new }
+
+-- the float of an id taken out. Its row stays: a row never narrows while its phase lives
+unfoldable pub takenOut : ℤ → Words → Words
+takenOut id w = record { store = storeOf (timeIn w) (removed id (recordsIn w)); table = w .table }
