@@ -113,6 +113,10 @@ records-removed id (h ∷ hs) o = go (eqZ (h .report .id) id) refl (records-remo
 
 -- ---- the clock step
 
+-- a held report in a live phase stays as a record exactly where it stays in the ledger: its phase lives on
+pub stays-held : (now time : ℤ) (h : Held) → isLive (phaseOf now) (h .phase) ≡ true → stays now time (recordOf h) ≡ isLive (phaseOf time) (h .phase)
+stays-held now time h live = ap (isLive (phaseOf time)) (live-phase-of-key (phaseOf now) (h .phase) (h .report) live)
+
 pub records-stepped : (now time : ℤ) (hs : List Held) → heldOnce hs ≡ true → ((h : Held) → List·Memᴰ h hs → isLive (phaseOf now) (h .phase) ≡ true)
     → steppedRecords now time (recordsOfHeld hs) ≡ recordsOfHeld (steppedHeld time hs)
 unfolding recordsOfHeld steppedHeld steppedRecords passing insertedAll
@@ -121,7 +125,7 @@ records-stepped now time (h ∷ hs) o live =
     go (isLive (phaseOf time) (h .phase)) refl (records-stepped now time hs (rest-once h hs o) (λ g m. live g (List·Memᴰ·tail m)))
   where
     phase : stays now time (recordOf h) ≡ isLive (phaseOf time) (h .phase)
-    phase = ap (isLive (phaseOf time)) (live-phase-of-key (phaseOf now) (h .phase) (h .report) (live h (List·Memᴰ·head refl)))
+    phase = stays-held now time h (live h (List·Memᴰ·head refl))
 
     go : (t : Bool) → isLive (phaseOf time) (h .phase) ≡ t → steppedRecords now time (recordsOfHeld hs) ≡ recordsOfHeld (steppedHeld time hs)
         → steppedRecords now time (inserted (recordOf h) (recordsOfHeld hs))

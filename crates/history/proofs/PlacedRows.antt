@@ -33,7 +33,7 @@ use Rattle.rows.proofs.SlotLaws.{phase-in-slot, slot-cases, other-slot-kept}
 use Rattle.records.specs.Order.{keyIn, slotOfKey, numberOfKey}
 use Rattle.store.specs.Changes.{placedIn, stays, moves, replaced, withSpeeds}
 use Rattle.records.specs.declared.Record.{Record}
-use Rattle.records.proofs.SoundLawsKeys.{slot-of-key-in, number-of-key-in, live-phase-of-key}
+use Rattle.records.proofs.SoundLawsKeys.{slot-of-key-in, number-of-key-in}
 use Rattle.records.proofs.SoundLawsRanges.{ranges, speed-size}
 use Rattle.store.proofs.OrderLaws.{replaced-from}
 use Rattle.store.proofs.SpeedLaws.{liesAt, speedsAt, Placeable, newBounds, withOne, bounds-inserted, with-speeds-length, row-with-speeds, none-elsewhere}
@@ -41,7 +41,7 @@ use Rattle.ledger.specs.Machine as Ledger
 use Rattle.ledger.specs.Machine.{Ledger, Held, Placement, placeIn, placement, newPlacements, livePlacements, stepped, withReport, speedsPlaced, rowsIn}
 use Rattle.ledger.proofs.MachineLaws.{isThere, speeds-append, speeds-live, no-speeds, speed-from}
 use Rattle.history.proofs.Relation.{recordOf, recordsOfHeld, GoodPlacement, Good, TableMatches}
-use Rattle.history.proofs.HeldRecords.{records-from}
+use Rattle.history.proofs.HeldRecords.{records-from, stays-held}
 use Rattle.history.proofs.GoodKept.{current-live, good-placement, stepped-good}
 
 -- ---- valid rows
@@ -132,7 +132,7 @@ bounds-alike now time p n (h ∷ hs) each live k =
     one = rowOfSpeed (h .report .vx) (h .report .vy)
 
     phase : stays now time (recordOf h) ≡ isLive (phaseOf time) (h .phase)
-    phase = ap (isLive (phaseOf time)) (live-phase-of-key (phaseOf now) (h .phase) (h .report) (each h (List·Memᴰ·head refl)))
+    phase = stays-held now time h (each h (List·Memᴰ·head refl))
 
     inner : (b : Bool) → cond b (joined one bounds) bounds ≡ boundsOf (cond b (one ∷ speeds) speeds)
     inner true = refl
