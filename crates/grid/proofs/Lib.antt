@@ -2,5 +2,5 @@ pub mod Every
 mod Tables
 pub mod Curve
 pub mod Places
-pub mod Sightings
+pub mod Examples
 pub mod MotionLaws

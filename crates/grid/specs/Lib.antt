@@ -3,4 +3,4 @@ pub mod Places
 pub mod Reports
 pub mod Small
 pub mod Curve
-pub mod Sightings
+pub mod Examples

@@ -7,7 +7,7 @@ use mathlib.Core.List.{List, [], _∷_, map, List·Memᴰ, List·Memᴰ·cases-c
 use mathlib.Core.Logic.{⊎-elim}
 use Prim.Native.Nat.{ℕ, _+_}
 use native.Mathlib.Omega.{arith}
-use Rattle.grid.specs.Sightings.{Sighting}
+use Rattle.grid.specs.Examples.{Example}
 use Rattle.records.specs.Soundness.{isSoundStore, isSound}
 use Rattle.ledger.specs.Answers.{refusalNumber, numberOf}
 use Rattle.ledger.specs.Refusals.{Check, unless, firstToFail, heldChecks}
@@ -22,7 +22,7 @@ use Rattle.ledger.specs.declared.Change.the-variants as Change
 use Rattle.engine.specs.Index.{openOut, clockOut}
 use Rattle.history.specs.Index.{fedAll}
 use Rattle.history.specs.Claims.{OneAndTwoNeverComeUp}
-use Rattle.history.specs.Sightings.{numbers}
+use Rattle.history.specs.Examples.{numbers}
 use Rattle.history.proofs.Claims.{every-history-is-the-ledgers}
 
 abbrev NotLent : ℕ → Type 0
@@ -86,6 +86,6 @@ one-and-two-never-come-up w time accepted calls r m =
 
 -- ---- computed
 
-pub numbers-as-said : map (λ (s : Sighting). s .given) numbers ≡ map (λ (s : Sighting). s .said) numbers
+pub numbers-as-said : map (λ (s : Example). s .given) numbers ≡ map (λ (s : Example). s .said) numbers
 unfolding numbers openOut clockOut firstToFail isSound isSoundStore
 numbers-as-said = refl

@@ -2,4 +2,4 @@ pub mod Index
 pub mod EveryCall
 pub mod Claims
 pub mod Points
-pub mod Sightings
+pub mod Examples

@@ -1,4 +1,4 @@
-pub mod Sightings
+pub mod Examples
 pub mod MachineLaws
 pub mod OrderLaws
 pub mod SumLaws

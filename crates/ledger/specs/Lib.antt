@@ -3,4 +3,4 @@ pub mod Refusals
 pub mod Machine
 pub mod Calls
 pub mod Claims
-pub mod Sightings
+pub mod Examples

@@ -4,4 +4,4 @@ pub mod FieldLaws
 pub mod LineLaws
 pub mod Claims
 pub mod PutLaws
-pub mod Sightings
+pub mod Examples

@@ -1,5 +1,5 @@
 pub mod Lines
 pub mod Reading
 pub mod Claims
-pub mod Sightings
+pub mod Examples
 pub mod Writing

@@ -11,6 +11,6 @@ pub mod BoundsLaws
 pub mod MarkLaws
 pub mod ChosenLaws
 pub mod ChooseLaws
-pub mod Sightings
+pub mod Examples
 pub mod ChoiceLaws
 pub mod SetLaws

@@ -7,4 +7,4 @@ pub mod Small
 pub mod Marked
 pub mod Given
 pub mod Claims
-pub mod Sightings
+pub mod Examples

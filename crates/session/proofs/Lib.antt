@@ -1,4 +1,4 @@
 pub mod FeedLaws
 pub mod Claims
 pub mod AnswerLaws
-pub mod Sightings
+pub mod Examples

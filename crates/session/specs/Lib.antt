@@ -1,4 +1,4 @@
 pub mod Replay
 pub mod Session
 pub mod Claims
-pub mod Sightings
+pub mod Examples

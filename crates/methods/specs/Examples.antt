@@ -7,8 +7,8 @@ use lib.Dec.{eqb}
 use lib.IntN.{ℤ, pos}
 use lib.ListN.{length}
 use Rattle.grid.specs.Places.{cellOf}
-use Rattle.grid.specs.Sightings.{Sighting}
-use Rattle.grid.specs.Sightings as Grid
+use Rattle.grid.specs.Examples.{Example}
+use Rattle.grid.specs.Examples as Grid
 use Rattle.rows.specs.Row.{emptyRow, widened}
 use Rattle.methods.specs.Aims.{sliceAim}
 use Rattle.methods.specs.Methods.{Rows, Choice, choice}
@@ -40,9 +40,9 @@ sliceP11 = record {
 unfoldable pub choiceP11 : ℕ → Choice
 choiceP11 method = choice method rowsP11 (sliceAim sliceP11)
 
-unfoldable pub sightings : List Sighting
-sightings =
-    Grid.sightings
+unfoldable pub examples : List Example
+examples =
+    Grid.examples
     ++ record { given = length (choiceP11 0 .cells); said = 8 }
     ∷ record { given = length (choiceP11 1 .cells); said = 4 }
     ∷ record { given = length (choiceP11 2 .cells); said = 1 }

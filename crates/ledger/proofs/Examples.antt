@@ -9,8 +9,8 @@ use Rattle.ints.specs.Lists.{passing}
 use Rattle.grid.specs.Places.{columnOf, cellSpan}
 use Rattle.grid.specs.Curve.{numberAt}
 use Rattle.grid.specs.Reports.{inRange, xAt, yAt, inRect, isListed}
-use Rattle.grid.specs.Sightings.{Sighting}
-use Rattle.grid.specs.Sightings as Grid
+use Rattle.grid.specs.Examples.{Example}
+use Rattle.grid.specs.Examples as Grid
 use Rattle.rows.specs.Row.{joined, sameRow, isEmpty, boundsOf}
 use Rattle.rows.specs.Phases.{phaseOf, referenceTime, isLive, livePhases}
 use Rattle.methods.specs.Reach.{expandedRange, expandedRect, blockOf, cellsOfRow, cellsOfRows, cellsOf, movedSpan, meets, movedCellMeets}
@@ -19,12 +19,12 @@ use Rattle.ledger.specs.Refusals.{firstToFail, isRectangle}
 use Rattle.ledger.specs.Machine.{opened, steppedHeld, newPlacements, livePlacements, stepped, isHeld, without, withReport}
 use Rattle.ledger.specs.Machine.{withoutId, speedsPlaced, rowsIn, listedHeld, isUseful, usefulCells, putInOrder, idsInOrder, summed}
 use Rattle.ledger.specs.Calls.{answerTo, changedBy, idsOf, next, replyTo, replies, after}
-use Rattle.ledger.specs.Sightings.{sightings, ledgerP11, ledgerP12, phasesHeld, columnsPlaced, listing, listingSays, sent, answers, refused, refusedSays, crowd, ledgerOfOne, numbers, add}
+use Rattle.ledger.specs.Examples.{examples, ledgerP11, ledgerP12, phasesHeld, columnsPlaced, listing, listingSays, sent, answers, refused, refusedSays, crowd, ledgerOfOne, numbers, add}
 use Rattle.ledger.specs.declared.Answer.the-variants.{Accepted, Refused}
 use Rattle.ledger.specs.declared.Refusal.the-variants.{Full}
 
-pub all-as-said : map (λ (s : Sighting). s .given) sightings ≡ map (λ (s : Sighting). s .said) sightings
-unfolding sightings Grid.sightings ledgerP11 ledgerP12 phasesHeld columnsPlaced columnOf cellSpan numberAt minZ maxZ eqZ passing joined sameRow isEmpty boundsOf expandedRange
+pub all-as-said : map (λ (s : Example). s .given) examples ≡ map (λ (s : Example). s .said) examples
+unfolding examples Grid.examples ledgerP11 ledgerP12 phasesHeld columnsPlaced columnOf cellSpan numberAt minZ maxZ eqZ passing joined sameRow isEmpty boundsOf expandedRange
     expandedRect blockOf cellsOfRow cellsOfRows cellsOf movedSpan meets movedCellMeets boundsIn expandedBlock iterated reached choice inRange xAt yAt inRect isListed phaseOf
     referenceTime isLive livePhases firstToFail isRectangle steppedHeld newPlacements livePlacements stepped isHeld without withReport withoutId speedsPlaced rowsIn listedHeld
     isUseful usefulCells putInOrder idsInOrder summed answerTo changedBy idsOf next replyTo replies after
@@ -51,7 +51,7 @@ unfolding columnOf cellSpan numberAt minZ maxZ eqZ passing joined sameRow isEmpt
     idsOf next replyTo replies after
 full-as-said = (refl, refl)
 
-pub numbers-as-said : map (λ (s : Sighting). s .given) numbers ≡ map (λ (s : Sighting). s .said) numbers
+pub numbers-as-said : map (λ (s : Example). s .given) numbers ≡ map (λ (s : Example). s .said) numbers
 unfolding numbers ledgerOfOne columnOf cellSpan numberAt minZ maxZ eqZ passing joined sameRow isEmpty boundsOf expandedRange expandedRect blockOf cellsOfRow cellsOfRows cellsOf
     movedSpan meets movedCellMeets boundsIn expandedBlock iterated reached choice inRange xAt yAt inRect isListed phaseOf referenceTime isLive livePhases firstToFail isRectangle
     steppedHeld newPlacements livePlacements stepped isHeld without withReport withoutId speedsPlaced rowsIn listedHeld isUseful usefulCells putInOrder idsInOrder summed answerTo

@@ -17,9 +17,9 @@ use Rattle.ledger.specs.Machine.{speedsPlaced, rowsIn, listedHeld, isUseful, us
 use Rattle.ledger.specs.Calls as L
 use Rattle.lines.specs.Lines.{digits, written, fieldOf, fields, letterOf, changeNumbers, numbersOf, noCallLine}
 use Rattle.lines.specs.Reading.{withDigit, after, numberOf, seenAt, numbersIn, areNumbers, callOf, countOf, readLine}
-use Rattle.lines.specs.Sightings.{bytes}
+use Rattle.lines.specs.Examples.{bytes}
 use Rattle.session.specs.Replay.{answerTo, next, linesFrom, answered, replayed}
-use Rattle.session.specs.Sightings.{ended, listing, listingSays, damaged, lastLine, damagedSays}
+use Rattle.session.specs.Examples.{ended, listing, listingSays, damaged, lastLine, damagedSays}
 
 pub listing-is-replayed : replayed (ended listing) ≡ ended listingSays
 unfolding listing listingSays replayed answered linesFrom answerTo next ended bytes readLine countOf numbersOf changeNumbers callOf numbersIn areNumbers seenAt numberOf

@@ -4,8 +4,8 @@ use mathlib.Core.Path.{_≡_, refl}
 use mathlib.Core.List.{map}
 use Rattle.grid.specs.Places.{columnOf}
 use Rattle.grid.specs.Curve.{numberAt}
-use Rattle.grid.specs.Sightings.{Sighting, sightings}
+use Rattle.grid.specs.Examples.{Example, examples}
 
-pub all-as-said : map (λ (s : Sighting). s .given) sightings ≡ map (λ (s : Sighting). s .said) sightings
-unfolding sightings columnOf numberAt
+pub all-as-said : map (λ (s : Example). s .given) examples ≡ map (λ (s : Example). s .said) examples
+unfolding examples columnOf numberAt
 all-as-said = refl

@@ -6,7 +6,7 @@ use Prim.Native.Char.{Char, code}
 use Prim.Native.String.{String, [] as []ᵀ, _∷_ as _∷ᵀ_}
 use lib.IntN.{pos, negsuc}
 use Rattle.grid.specs.declared.Rect.{Rect}
-use Rattle.ledger.specs.Sightings.{sent, rectangle}
+use Rattle.ledger.specs.Examples.{sent, rectangle}
 use Rattle.ledger.specs.declared.Answer.{Answer}
 use Rattle.ledger.specs.declared.Answer.the-variants.{Accepted, Listed, Refused}
 use Rattle.ledger.specs.declared.Refusal.the-variants.{NotHeld, ListTooShort}

@@ -3,7 +3,7 @@
 use mathlib.Core.List.{List, [], _∷_}
 use lib.IntN.{ℤ, pos, negsuc}
 use lib.ListN.{replicate}
-use Rattle.grid.specs.Sightings.{Sighting}
+use Rattle.grid.specs.Examples.{Example}
 use Rattle.rows.specs.Table.{tableWords}
 use Rattle.records.specs.Records.{storeWords}
 use Rattle.records.specs.Words.{words}
@@ -17,7 +17,7 @@ wholeStore word = replicate storeWords word
 abbrev pub wholeTable : List ℤ
 wholeTable = replicate tableWords (pos 0)
 
-unfoldable pub numbers : List Sighting
+unfoldable pub numbers : List Example
 numbers =
     record { given = numberOf (openOut (words (wholeStore (negsuc 0)) wholeTable) (pos 0) .answer); said = 0 }
     ∷ record { given = numberOf (clockOut (words [] []) (pos 0) .answer); said = 1 }

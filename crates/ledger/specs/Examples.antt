@@ -5,8 +5,8 @@ use mathlib.Core.List.{List, [], _∷_, _++_}
 use Prim.Native.Nat.{ℕ}
 use lib.IntN.{ℤ, pos, negsuc}
 use lib.ListN.{replicate}
-use Rattle.grid.specs.Sightings.{Sighting}
-use Rattle.grid.specs.Sightings as Grid
+use Rattle.grid.specs.Examples.{Example}
+use Rattle.grid.specs.Examples as Grid
 use Rattle.grid.specs.declared.Rect.{Rect}
 use Rattle.grid.specs.declared.Report.{Report}
 use Rattle.ledger.specs.Answers.{numberOf, countsOf}
@@ -75,9 +75,9 @@ abbrev pub first : List ℕ → ℕ
 first [] = 1000000
 first (n ∷ ns) = n
 
-unfoldable pub sightings : List Sighting
-sightings =
-    Grid.sightings
+unfoldable pub examples : List Example
+examples =
+    Grid.examples
     ++ record { given = countsOf (askP11 0) .cells; said = 8 }
     ∷ record { given = countsOf (askP11 1) .cells; said = 4 }
     ∷ record { given = countsOf (askP11 2) .cells; said = 1 }
@@ -175,7 +175,7 @@ crowd n = record {
 unfoldable pub ledgerOfOne : Ledger
 ledgerOfOne = after (opened (pos 3600)) (add (sent 5 3600 1000 1000 (pos 1) (pos 1)) ∷ [])
 
-unfoldable pub numbers : List Sighting
+unfoldable pub numbers : List Example
 numbers =
     record { given = numberOf (answerTo ledgerOfOne (clock (pos 3600))); said = 0 }
     ∷ record { given = numberOf (answerTo ledgerOfOne (clock (pos 3599))); said = 3 }

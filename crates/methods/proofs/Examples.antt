@@ -5,15 +5,15 @@ use mathlib.Core.List.{map}
 use Rattle.ints.specs.Whole.{minZ, maxZ, eqZ}
 use Rattle.grid.specs.Places.{columnOf, cellSpan}
 use Rattle.grid.specs.Curve.{numberAt}
-use Rattle.grid.specs.Sightings.{Sighting}
-use Rattle.grid.specs.Sightings as Grid
+use Rattle.grid.specs.Examples.{Example}
+use Rattle.grid.specs.Examples as Grid
 use Rattle.rows.specs.Row.{joined, sameRow, isEmpty, boundsOf}
 use Rattle.methods.specs.Reach.{expandedRange, expandedRect, blockOf, cellsOfRow, cellsOfRows, cellsOf, movedSpan, meets, movedCellMeets}
 use Rattle.methods.specs.Methods.{boundsIn, expandedBlock, iterated, reached, choice}
-use Rattle.methods.specs.Sightings.{sightings, rowsP11, choiceP11}
+use Rattle.methods.specs.Examples.{examples, rowsP11, choiceP11}
 
-pub all-as-said : map (λ (s : Sighting). s .given) sightings ≡ map (λ (s : Sighting). s .said) sightings
-unfolding sightings Grid.sightings columnOf cellSpan numberAt minZ maxZ eqZ joined sameRow isEmpty boundsOf
+pub all-as-said : map (λ (s : Example). s .given) examples ≡ map (λ (s : Example). s .said) examples
+unfolding examples Grid.examples columnOf cellSpan numberAt minZ maxZ eqZ joined sameRow isEmpty boundsOf
     expandedRange expandedRect blockOf cellsOfRow cellsOfRows cellsOf movedSpan meets movedCellMeets
     boundsIn expandedBlock iterated reached choice rowsP11 choiceP11
 all-as-said = refl

@@ -7,13 +7,13 @@ use Rattle.grid.specs.Places.{columnOf}
 use Rattle.grid.specs.Curve.{cell, curveNumber}
 
 -- one case: what the definitions give, and what the document says
-pub record Sighting : Type 0 where
+pub record Example : Type 0 where
   pub given : ℕ
   pub said : ℕ
 
 -- P1 to P6, curve numbers by (column, row), and P7 to P10, columns
-unfoldable pub sightings : List Sighting
-sightings =
+unfoldable pub examples : List Example
+examples =
     record { given = curveNumber (cell 0 0); said = 0 }
     ∷ record { given = curveNumber (cell 0 1); said = 1 }
     ∷ record { given = curveNumber (cell 1 0); said = 3 }

@@ -7,7 +7,7 @@ use Prim.Native.String.{String}
 use Rattle.lines.specs.declared.Line.the-variants.{NoCall}
 use Rattle.lines.specs.Lines.{digits, written, fieldOf, fields, letterOf, changeNumbers, numbersOf, callLine, answerLine, noCallLine}
 use Rattle.lines.specs.Reading.{withDigit, after, numberOf, seenAt, numbersIn, areNumbers, callOf, countOf, readLine}
-use Rattle.lines.specs.Sightings.{bytes, Said, listing, Answered, answered, shortList, limits, damaged}
+use Rattle.lines.specs.Examples.{bytes, Said, listing, Answered, answered, shortList, limits, damaged}
 
 pub listing-is-read : map (λ (s : Said). readLine (bytes (s .line))) (listing ++ limits) ≡ map (λ (s : Said). s .call) (listing ++ limits)
 unfolding bytes listing limits readLine countOf numbersOf changeNumbers callOf numbersIn areNumbers seenAt numberOf after withDigit
