@@ -13,7 +13,7 @@ use borrow.Author.Tests.{eqb-true, eq-eqb, not-false}
 use Rattle.ints.specs.Whole.{between, up}
 use Rattle.ints.proofs.Parts.{signed, add, sub, le-true}
 use Rattle.ints.proofs.Truth.{same-truth, and-true, and-left, and-right, or-neither}
-use Rattle.ints.proofs.Members.{passing, passing-same}
+use Rattle.ints.proofs.Members.{passing, passing-same, every-each}
 use Rattle.grid.specs.Curve.{curveNumber}
 use Rattle.grid.specs.Reports.{isTime, isPosition, xAt, yAt, cellAtTime, isListed}
 use Rattle.grid.specs.declared.Query.{Query}
@@ -32,10 +32,11 @@ use Rattle.methods.proofs.Claims.{listed-is-read}
 use Rattle.methods.proofs.SetLaws.{mark-of-cell}
 use Rattle.records.specs.Words.{Words, timeIn, recordsIn}
 use Rattle.records.specs.Order.{slotOfKey, numberOfKey, phaseOfKey}
+use Rattle.records.specs.Soundness.{inOwnRow}
 use Rattle.records.specs.declared.Record.{Record}
 use Rattle.records.proofs.SoundLawsRanges.{time-from}
 use Rattle.records.proofs.SoundLawsKeys.{number-of-key-in}
-use Rattle.records.proofs.SoundLaws.{SoundRecord, all-sound-each, speeds-each, Sound}
+use Rattle.records.proofs.SoundLaws.{SoundRecord, all-sound-each, Sound}
 use Rattle.reading.specs.Reading.{inSet, isRead}
 use Rattle.reading.proofs.ListedLaws.{listed-is}
 use Rattle.ledger.specs.Refusals.{badAskTime, badAsk, isRectangle}
@@ -144,7 +145,7 @@ module _ (w : Words) (sound : Sound (w .store) (w .table)) (ask : Ask) (fit : Fi
       let rows = rowsOfSlot (w .table) (slotOf p) in
       let number : numberOfKey (r .key) ≡ curveNumber own = ap numberOfKey (placed .key-is) ∙ number-of-key-in p float in
       let row : heldBy (rows own) (placedBy p float) ≡ true =
-      sym (ap₂ (λ (a b : ℕ). heldBy (rowAt (w .table) a b) (placedBy p float)) (placed .slot-is) number) ∙ speeds-each (w .table) (recordsIn w) (sound .speeds) r m in
+      sym (ap₂ (λ (a b : ℕ). heldBy (rowAt (w .table) a b) (placedBy p float)) (placed .slot-is) number) ∙ every-each (inOwnRow (w .table)) (recordsIn w) (sound .speeds) m in
       let chosen = listed-is-read rows (valid-rows p) p (ask .query) (fit-in-order (timeIn w) (ask .query) fit) float row h (up (ask .method)) in
       ap (inSet (marksIn w ask p)) number ∙ mark-of-cell (choiceOf w ask p .cells) own (cell-on (xAt float from) (yAt float from)) chosen
 

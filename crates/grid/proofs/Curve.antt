@@ -11,9 +11,10 @@ use native.Mathlib.Omega.{arith}
 use lib.Dec.{T, eqb, eqb→eq, ltb, ltb→lt}
 use lib.ListN.{getD}
 use Rattle.grid.specs.Units.{side, cells}
-use Rattle.grid.specs.Places.{OnGrid}
+use Rattle.grid.specs.Places.{sameCell, OnGrid}
 use Rattle.grid.specs.Curve.{cell, numberAt, cellAt, curveNumber, cellOfNumber, apart}
 use Rattle.grid.specs.declared.Cell.{Cell}
+use Rattle.grid.proofs.Places.{one-cell}
 use Rattle.grid.proofs.Every.{left, right, at-place}
 use Rattle.grid.proofs.Tables as Tables
 
@@ -24,26 +25,23 @@ placeOf c = c .row * side + c .column
 abbrev pub cellOfPlace : ℕ → Cell
 cellOfPlace k = cell (k % side) (k / side)
 
-abbrev same : Cell → Cell → Bool
-same a b = eqb (a .column) (b .column) && eqb (a .row) (b .row)
-
-same-cell : (a b : Cell) → T (same a b) → a ≡ b
-same-cell a b t =
-    let u = eqb→eq (a .column) (b .column) (left (eqb (a .column) (b .column)) (eqb (a .row) (b .row)) t) in
-    let v = eqb→eq (a .row) (b .row) (right (eqb (a .column) (b .column)) (eqb (a .row) (b .row)) t) in
-    λ i. record { column = u i; row = v i }
+cells-agree : (a b : Cell) → T (sameCell a b) → a ≡ b
+cells-agree a b t =
+    one-cell
+    (eqb→eq (a .column) (b .column) (left (eqb (a .column) (b .column)) (eqb (a .row) (b .row)) t))
+    (eqb→eq (a .row) (b .row) (right (eqb (a .column) (b .column)) (eqb (a .row) (b .row)) t))
 
 -- at place k: the entry is the number of its cell, is a number of the curve, and leads back to the cell
 numbered : ℕ → Bool
 numbered k =
     let n = getD Tables.curve k 0 in
-    eqb n (curveNumber (cellOfPlace k)) && (ltb n cells && same (cellOfNumber n) (cellOfPlace k))
+    eqb n (curveNumber (cellOfPlace k)) && (ltb n cells && sameCell (cellOfNumber n) (cellOfPlace k))
 
 -- at number n: the entry is the place of its cell, the cell is on the grid and leads back to the number
 visited : ℕ → Bool
 visited n =
     let c = cellOfNumber n in
-    same (cellOfPlace (getD Tables.cell n 0)) c && (ltb (c .column) side && (ltb (c .row) side && eqb (curveNumber c) n))
+    sameCell (cellOfPlace (getD Tables.cell n 0)) c && (ltb (c .column) side && (ltb (c .row) side && eqb (curveNumber c) n))
 
 -- at number n: the last one, or its cell shares a side with the next one's
 joined : ℕ → Bool
@@ -85,16 +83,16 @@ module _ (k : ℕ) (h : k < cells) where
 
   entry-back : cellOfNumber (getD Tables.curve k 0) ≡ cellOfPlace k
   unfolding numbered
-  entry-back = same-cell _ _ (right (ltb (getD Tables.curve k 0) cells) _ (right (eqb (getD Tables.curve k 0) _) _ numbered-here))
+  entry-back = cells-agree _ _ (right (ltb (getD Tables.curve k 0) cells) _ (right (eqb (getD Tables.curve k 0) _) _ numbered-here))
 
   -- what the cell table holds
   pub table-cell : cellOfPlace (getD Tables.cell k 0) ≡ cellOfNumber k
   unfolding visited
-  table-cell = same-cell _ _ (left (same _ (cellOfNumber k)) _ visited-here)
+  table-cell = cells-agree _ _ (left (sameCell _ (cellOfNumber k)) _ visited-here)
 
   on : T (ltb (cellOfNumber k .column) side && (ltb (cellOfNumber k .row) side && eqb (curveNumber (cellOfNumber k)) k))
   unfolding visited
-  on = right (same (cellOfPlace (getD Tables.cell k 0)) (cellOfNumber k)) _ visited-here
+  on = right (sameCell (cellOfPlace (getD Tables.cell k 0)) (cellOfNumber k)) _ visited-here
 
   -- each number's cell is on the grid
   pub cell-on-grid : OnGrid (cellOfNumber k)
@@ -117,7 +115,7 @@ module _ (c : Cell) (on : OnGrid c) where
   cell-of-its-place =
       let u : placeOf c % side ≡ c .column = omega (arith, on .column-on) in
       let v : placeOf c / side ≡ c .row = omega (arith, on .column-on) in
-      λ i. record { column = u i; row = v i }
+      one-cell u v
 
   -- what the curve table holds
   pub table-number : getD Tables.curve (placeOf c) 0 ≡ curveNumber c

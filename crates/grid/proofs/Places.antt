@@ -14,7 +14,7 @@ use Rattle.ints.specs.Whole.{floorZ}
 use Rattle.ints.proofs.Parts.{up, one-part, up-floor, up-raised, le-true, true-le}
 use Rattle.ints.proofs.Truth.{same-truth, and-true, and-left, and-right}
 use Rattle.grid.specs.Units.{side, cellSize}
-use Rattle.grid.specs.Places.{columnOf, rowOf, cellSpan, inSpan, endAt, notBelow, notAbove, cellOf, inCell, OnGrid}
+use Rattle.grid.specs.Places.{columnOf, cellSpan, inSpan, endAt, notBelow, notAbove, cellOf, sameCell, inCell, OnGrid}
 use Rattle.grid.specs.declared.Cell.{Cell}
 
 -- the column in ℕ, for omega
@@ -84,8 +84,23 @@ in-span i on x =
     same-truth _ _ (λ h. eq-eqb _ i (in-own-span i on x h))
     (λ e. rw (← eqb-true (columnOf x) i e) (own-span-holds x))
 
+-- ---- cells
+
+pub one-cell : {a b : Cell} → a .column ≡ b .column → a .row ≡ b .row → a ≡ b
+one-cell p q = λ i. record { column = p i; row = q i }
+
+pub same-cell : (a b : Cell) → sameCell a b ≡ true → a ≡ b
+same-cell a b h =
+    one-cell
+    (eqb-true (a .column) (b .column) (and-left (eqb (a .column) (b .column)) (eqb (a .row) (b .row)) h))
+    (eqb-true (a .row) (b .row) (and-right (eqb (a .column) (b .column)) (eqb (a .row) (b .row)) h))
+
+pub cell-same : {a b : Cell} → a ≡ b → sameCell a b ≡ true
+cell-same {a} {b} e =
+    and-true _ _ (eq-eqb (a .column) (b .column) (ap (λ (c : Cell). c .column) e)) (eq-eqb (a .row) (b .row) (ap (λ (c : Cell). c .row) e))
+
 -- a position lies in a cell exactly when that is its cell
-pub in-cell : (c : Cell) → OnGrid c → (x y : ℤ) → inCell c x y ≡ eqb (columnOf x) (c .column) && eqb (rowOf y) (c .row)
+pub in-cell : (c : Cell) → OnGrid c → (x y : ℤ) → inCell c x y ≡ sameCell (cellOf x y) c
 in-cell c on x y = ap₂ _&&_ (in-span (c .column) (on .column-on) x) (in-span (c .row) (on .row-on) y)
 
 pub in-own-cell : (x y : ℤ) → inCell (cellOf x y) x y ≡ true
@@ -95,4 +110,4 @@ pub in-no-other-cell : (c : Cell) → OnGrid c → (x y : ℤ) → inCell c x y 
 in-no-other-cell c on x y h =
     let u = in-own-span (c .column) (on .column-on) x (and-left _ (inSpan (cellSpan (c .row)) y) h) in
     let v = in-own-span (c .row) (on .row-on) y (and-right (inSpan (cellSpan (c .column)) x) _ h) in
-    λ i. record { column = u i; row = v i }
+    one-cell u v

@@ -24,6 +24,9 @@ rowOf = columnOf
 abbrev pub cellOf : ℤ → ℤ → Cell
 cellOf x y = record { column = columnOf x; row = rowOf y }
 
+abbrev pub sameCell : Cell → Cell → Bool
+sameCell a b = eqb (a .column) (b .column) && eqb (a .row) (b .row)
+
 -- the cells that the grid has
 pub record OnGrid (c : Cell) : Type 0 where
   pub column-on : c .column < side

@@ -10,6 +10,7 @@ use lib.Dec.{ltb}
 use lib.IntN.{ℤ}
 use lib.ListN.{length, take, drop}
 use lib.Seq.{take-append-seam}
+use Rattle.ints.specs.Lists.{passing}
 use Rattle.ints.specs.Whole.{up}
 use Rattle.ints.proofs.Truth.{same-truth}
 use Rattle.ints.proofs.Members.{map-has, map-in}
@@ -105,7 +106,7 @@ inside-inserted query r (a ∷ rs) = go (precedes r a) (inside-inserted query r 
         ap (withId query a) e ∙ swapped (isInside query a) (isInside query r) (idOf a) (idOf r) (idsInside query rs)
 
 inside-held : (query : Query) (hs : List Held) → idsInside query (recordsOfHeld hs) ≡ idsInOrder (listedHeld query hs)
-unfolding recordsOfHeld idsInOrder listedHeld idsInside
+unfolding recordsOfHeld idsInOrder passing idsInside
 inside-held query [] = refl
 inside-held query (h ∷ hs) =
     inside-inserted query (recordOf h) (recordsOfHeld hs)

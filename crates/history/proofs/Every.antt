@@ -20,6 +20,7 @@ use Rattle.records.specs.Words.{Words, timeIn, recordsIn}
 use Rattle.words.specs.Words as Index
 use Rattle.words.proofs.PlaceLaws.{opened-time, opened-records, opened-can-change}
 use Rattle.ledger.specs.Answers.{isAccepted}
+use Rattle.ints.specs.Lists.{passing}
 use Rattle.ints.proofs.Parts.{true-false}
 use Rattle.ledger.specs.Refusals.{Check, check, firstToFail, badTime, clockChecks, timeOf}
 use Rattle.ledger.specs.Machine.{Ledger, opened, stepped, changed, rowsIn, speedsPlaced}
@@ -78,7 +79,7 @@ module _ (t : List ℤ) (sized : length t ≡ tableWords) where
   all-empty (suc (suc (suc slot))) n h k = absurd (omega arith)
 
   opened-table : (time : ℤ) → TableMatches (opened time) third
-  unfolding rowsIn speedsPlaced boundsOf
+  unfolding rowsIn speedsPlaced passing boundsOf
   opened-table time =
       record {
         table-long = third-long;

@@ -11,6 +11,7 @@ use lib.IntN.{ℤ, pos}
 use lib.ListN.{length}
 use lib.Signed.{leZ}
 use borrow.Author.Tests.{le-leb}
+use Rattle.ints.specs.Lists.{some}
 use Rattle.ints.specs.Whole.{eqZ, between}
 use Rattle.ints.proofs.Least.{le-trans}
 use Rattle.ints.proofs.Truth.{and-true, and-left, and-right}
@@ -21,7 +22,7 @@ use Rattle.grid.specs.declared.Report.{Report}
 use Rattle.grid.proofs.Places.{cell-on}
 use Rattle.rows.specs.Phases.{phaseOf, referenceTime, isLive}
 use Rattle.rows.proofs.PhaseLaws.{range-live, phases-grow}
-use Rattle.records.proofs.SoundLawsRanges.{ranges}
+use Rattle.records.proofs.SoundLawsRanges.{drift-in-range}
 use Rattle.ledger.specs.Machine.{Ledger, Held, Placement, placement, opened, isHeld, without, steppedOne, steppedHeld, newPlacements, livePlacements, stepped, withReport, withoutId}
 use Rattle.ledger.proofs.MachineLaws.{same-report, stepped-length, stepped-held, stepped-from, without-member, without-few, without-held, live-from, live-stays, new-from, new-placed}
 use Rattle.history.proofs.Relation.{heldOnce, GoodHeld, GoodPlacement, Good}
@@ -54,9 +55,8 @@ sent-phase now t b = le-leb (phaseOf t) (phaseOf now) (phases-grow t now (and-ri
 -- a report in range placed in the current phase
 pub good-placement : (now : ℤ) (r : Report) → inRange r ≡ true → GoodPlacement now (placement (phaseOf now) r)
 good-placement now r h =
-    let a = ranges r h in
     let s = referenceTime (phaseOf now) in
-    record { live = current-live (phaseOf now); on-grid = cell-on (xAt r s) (yAt r s); speed-x = a .vx; speed-y = a .vy }
+    record { live = current-live (phaseOf now); on-grid = cell-on (xAt r s) (yAt r s); in-range = drift-in-range r h }
 
 -- ---- the clock step
 
@@ -109,7 +109,7 @@ module _ (t : ℤ) (l : Ledger) (good : Good l) (is-time : isTime t ≡ true) (l
       old k =
           let from = live-from t (l .placements) k in
           let g = good .places a (from .0) in
-          record { live = from .1; on-grid = g .on-grid; speed-x = g .speed-x; speed-y = g .speed-y }
+          record { live = from .1; on-grid = g .on-grid; in-range = g .in-range }
 
       new : List·Memᴰ a (newPlacements t (l .held)) → GoodPlacement t a
       new k =
@@ -183,7 +183,7 @@ once-without id (h ∷ hs) o = go (eqZ (h .report .id) id) (once-without id hs (
 
 -- it was held once
 pub without-gone : (id : ℤ) (hs : List Held) → heldOnce hs ≡ true → isHeld id (without id hs) ≡ false
-unfolding without isHeld
+unfolding without some
 without-gone id [] o = refl
 without-gone id (h ∷ hs) o = go (eqZ (h .report .id) id) refl (without-gone id hs (rest-once h hs o))
   where

@@ -10,7 +10,7 @@ use lib.IntN.{ℤ}
 use lib.ListN.{length}
 use borrow.Author.Tests.{leb-true, not-true}
 use Rattle.ints.specs.Whole.{eqZ}
-use Rattle.ints.specs.Lists.{passing}
+use Rattle.ints.specs.Lists.{passing, some, every}
 use Rattle.ints.proofs.Truth.{and-left, and-right}
 use Rattle.ints.proofs.Same.{same-is}
 use Rattle.rows.specs.Phases.{phaseOf, isLive}
@@ -31,7 +31,7 @@ records-length [] = refl
 records-length (h ∷ hs) = inserted-length (recordOf h) (recordsOfHeld hs) ∙ ap suc (records-length hs)
 
 pub records-has : (id : ℤ) (hs : List Held) → hasId id (recordsOfHeld hs) ≡ isHeld id hs
-unfolding recordsOfHeld isHeld hasId
+unfolding recordsOfHeld some
 records-has id [] = refl
 records-has id (h ∷ hs) = has-inserted id (recordOf h) (recordsOfHeld hs) ∙ rw (records-has id hs)
 
@@ -85,11 +85,11 @@ good-record now ps h g =
     (placed-right now (h .phase) (h .report) (g .live) (leb-true (phaseOf (h .report .t)) (h .phase) (g .not-before)))
 
 sound-more : (now : ℤ) (r : Record) (rs : List Record) → allSound now (r ∷ rs) ≡ isSoundRecord now r && allSound now rs
-unfolding allSound
+unfolding every
 sound-more now r rs = refl
 
 pub records-sound : (now : ℤ) (ps : List Placement) (hs : List Held) → ((h : Held) → List·Memᴰ h hs → GoodHeld now ps h) → allSound now (recordsOfHeld hs) ≡ true
-unfolding recordsOfHeld allSound
+unfolding recordsOfHeld every
 records-sound now ps [] each = refl
 records-sound now ps (h ∷ hs) each =
     inserted-passes (allSound now) (isSoundRecord now) (sound-more now) (recordOf h) (recordsOfHeld hs)

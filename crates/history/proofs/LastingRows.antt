@@ -15,16 +15,17 @@ use Rattle.grid.specs.Curve.{curveNumber}
 use Rattle.grid.specs.declared.Cell.{Cell}
 use Rattle.grid.specs.declared.Report.{Report}
 use Rattle.grid.proofs.Curve.{number-below}
-use Rattle.rows.specs.Row.{rowOfSpeed, widened, boundsOf}
+use Rattle.rows.specs.Row.{driftOf, widened, boundsOf}
 use Rattle.rows.specs.Phases.{slots, phaseOf, isLive, slotOf}
-use Rattle.rows.specs.Table.{tableWords, rowAt, withSpeed, withNewlyLiveEmpty}
+use Rattle.rows.specs.Table.{tableWords, rowAt, withDrift, withNewlyLiveEmpty}
 use Rattle.rows.specs.declared.Row.{Row}
 use Rattle.rows.proofs.PhaseLaws.{live-range, range-live, slot-on, phases-grow}
 use Rattle.rows.proofs.RowLaws.{Within, within-refl, within-trans, within-joined-left, holds-within, bounds-grow}
 use Rattle.rows.proofs.TableLaws.{row-written, row-other, length-with-row, length-newly-live-empty, earlier-live-kept}
 use Rattle.records.specs.Words.{Words, timeIn, recordsIn}
 use Rattle.records.specs.Order.{slotOfKey, numberOfKey}
-use Rattle.store.specs.Changes.{inserted, removed, placedIn, moves, replaced, steppedRecords, withSpeeds}
+use Rattle.store.specs.Changes.{inserted, removed, placedIn, moves, replaced, steppedRecords, widenedBy, widenedByAll}
+use Rattle.store.proofs.SpeedLaws.{ownRow}
 use Rattle.words.specs.Words as Index
 use Rattle.records.specs.declared.Record.{Record}
 use Rattle.records.proofs.RecordLaws.{now-of-store}
@@ -54,34 +55,34 @@ use Rattle.history.proofs.Steps.{step-later}
 -- ---- rows of a table that is widened
 
 one-widened :
-    (t : List ℤ) (k n slot number : ℕ) (vx vy : ℤ)
+    (t : List ℤ) (r : Record) (slot number : ℕ)
     → length t ≡ tableWords
-    → n < cells
     → slot < slots
     → number < cells
-    → Within (rowAt t slot number) (rowAt (withSpeed t k n vx vy) slot number)
-one-widened t k n slot number vx vy sized below on here =
-    let new = widened (rowAt t k n) vx vy in
+    → Within (rowAt t slot number) (rowAt (widenedBy t r) slot number)
+one-widened t r slot number sized on here =
+    let k = slotOfKey (r .key) in
+    let n = numberOfKey (r .key) in
+    let below = number-of-key-below (r .key) in
+    let new = widened (rowAt t k n) (driftOf (r .report)) in
     dite (ℕ-discrete slot k)
     (λ (e : slot ≡ k).
     dite (ℕ-discrete number n)
     (λ (f : number ≡ n).
     let there : k < slots = omega arith in
-    rw (e, f, row-written t k n new sized there below) (within-joined-left (rowAt t k n) (rowOfSpeed vx vy)))
+    rw (e, f, row-written t k n new sized there below) (within-joined-left (rowAt t k n) (ownRow r)))
     (λ f. rw (row-other t k n new slot number below here (inr f)) (within-refl (rowAt t slot number))))
     (λ e. rw (row-other t k n new slot number below here (inl e)) (within-refl (rowAt t slot number)))
 
-all-widened : (t : List ℤ) (rs : List Record) (slot number : ℕ) → length t ≡ tableWords → slot < slots → number < cells → Within (rowAt t slot number) (rowAt (withSpeeds t rs) slot number)
-unfolding withSpeeds
+all-widened : (t : List ℤ) (rs : List Record) (slot number : ℕ) → length t ≡ tableWords → slot < slots → number < cells → Within (rowAt t slot number) (rowAt (widenedByAll t rs) slot number)
+unfolding widenedByAll
 all-widened t [] slot number sized on here = within-refl (rowAt t slot number)
 all-widened t (r ∷ rs) slot number sized on here =
     let k = slotOfKey (r .key) in
     let n = numberOfKey (r .key) in
-    let vx = r .report .vx in
-    let vy = r .report .vy in
     within-trans
-    (one-widened t k n slot number vx vy sized (number-of-key-below (r .key)) on here)
-    (all-widened (withSpeed t k n vx vy) rs slot number (length-with-row t k n (widened (rowAt t k n) vx vy) ∙ sized) on here)
+    (one-widened t r slot number sized on here)
+    (all-widened (widenedBy t r) rs slot number (length-with-row t k n (widened (rowAt t k n) (driftOf (r .report))) ∙ sized) on here)
 
 -- ---- one call
 
@@ -122,7 +123,7 @@ step-lasts w time sized later =
     record {
       phase-rises = rw now rises;
       keeps = λ p h k n here.
-          subst (λ (r : Row). Within r (rowAt (withSpeeds bare anew) (slotOf p) n))
+          subst (λ (r : Row). Within r (rowAt (widenedByAll bare anew) (slotOf p) n))
           (earlier-live-kept (w .table) c to sized p n (rw now at k) here (live-range c p h .0))
           (all-widened bare anew (slotOf p) n (length-newly-live-empty (w .table) c to sized) (slot-on p) here);
     }
@@ -135,8 +136,7 @@ place-lasts w r sized =
     let now = now-of-store (timeIn w) (inserted new (recordsIn w)) in
     record {
       phase-rises = rw now (omega arith);
-      keeps = λ p h k n here.
-          one-widened (w .table) (slotOfKey (new .key)) (numberOfKey (new .key)) (slotOf p) n (r .vx) (r .vy) sized (number-of-key-below (new .key)) (slot-on p) here;
+      keeps = λ p h k n here. one-widened (w .table) new (slotOf p) n sized (slot-on p) here;
     }
 
 take-lasts : (w : Words) (id : ℤ) → Lasts w (Index.takenOut id w)

@@ -13,33 +13,35 @@ use lib.ListN.{length}
 use lib.Signed.{leZ}
 use borrow.Author.Tests.{eqb-true, eq-eqb, ne-eqb}
 use Rattle.ints.specs.Lists.{passing}
+use Rattle.ints.proofs.Members.{map-passing}
 use Rattle.ints.proofs.Truth.{same-truth, and-true, and-left, and-right}
 use Rattle.grid.specs.Units.{cells}
-use Rattle.grid.specs.Places.{OnGrid}
+use Rattle.grid.specs.Places.{sameCell, OnGrid}
 use Rattle.grid.specs.Curve.{curveNumber, cellOfNumber}
 use Rattle.grid.specs.Reports.{isTime, inRange, xAt, yAt}
 use Rattle.grid.specs.declared.Cell.{Cell}
 use Rattle.grid.specs.declared.Report.{Report}
-use Rattle.grid.proofs.Places.{cell-on}
+use Rattle.grid.proofs.Places.{same-cell, cell-same, cell-on}
 use Rattle.grid.proofs.Curve.{number-of-its-cell, cell-of-its-number}
-use Rattle.rows.specs.Row.{emptyRow, rowOfSpeed, joined, validRow, boundsOf}
+use Rattle.rows.specs.Row.{driftOf, emptyRow, rowOfDrift, joined, validRow, boundsOf}
 use Rattle.rows.specs.Phases.{phaseOf, referenceTime, isLive, slotOf, slots}
 use Rattle.rows.specs.Table.{tableWords, rowAt, withNewlyLiveEmpty}
 use Rattle.rows.specs.declared.Row.{Row}
-use Rattle.rows.proofs.RowLaws.{AllValid, joined-same, speed-ranged, ranged-valid, empty-valid, bounds-valid, bounds-append}
+use Rattle.rows.proofs.RowLaws.{AllValid, joined-same, drift-ranged, ranged-valid, empty-valid, bounds-valid, bounds-append}
 use Rattle.rows.proofs.PhaseLaws.{live-range, range-live, same-slot, slot-on, phases-grow}
 use Rattle.rows.proofs.TableLaws.{length-newly-live-empty, newly-live-emptied, earlier-live-kept}
 use Rattle.rows.proofs.SlotLaws.{phase-in-slot, slot-cases, other-slot-kept}
 use Rattle.records.specs.Order.{keyIn, slotOfKey, numberOfKey}
-use Rattle.store.specs.Changes.{placedIn, stays, moves, replaced, withSpeeds}
+use Rattle.store.specs.Changes.{placedIn, stays, moves, replaced, widenedByAll}
 use Rattle.records.specs.declared.Record.{Record}
 use Rattle.records.proofs.SoundLawsKeys.{slot-of-key-in, number-of-key-in}
-use Rattle.records.proofs.SoundLawsRanges.{ranges, speed-size}
+use Rattle.records.proofs.SoundLawsRanges.{drift-in-range}
 use Rattle.store.proofs.OrderLaws.{replaced-from}
 use Rattle.store.proofs.SpeedLaws.{liesAt, speedsAt, Placeable, newBounds, withOne, bounds-inserted, with-speeds-length, row-with-speeds, none-elsewhere}
+use Rattle.store.proofs.SpeedLaws as Records
 use Rattle.ledger.specs.Machine as Ledger
 use Rattle.ledger.specs.Machine.{Ledger, Held, Placement, placeIn, placement, newPlacements, livePlacements, stepped, withReport, speedsPlaced, rowsIn}
-use Rattle.ledger.proofs.MachineLaws.{isThere, speeds-append, speeds-live, no-speeds, speed-from}
+use Rattle.ledger.proofs.MachineLaws.{isThere, ownRow, speeds-append, speeds-live, no-speeds, speed-from}
 use Rattle.history.proofs.Relation.{recordOf, recordsOfHeld, GoodPlacement, Good, TableMatches}
 use Rattle.history.proofs.HeldRecords.{records-from, stays-held}
 use Rattle.history.proofs.GoodKept.{current-live, good-placement, stepped-good}
@@ -51,7 +53,7 @@ speeds-valid now p c ps each r m =
     let from = speed-from p c ps m in
     let a = from .0 in
     let g = each a (from .1) in
-    ap validRow (from .2) ∙ ranged-valid (speed-ranged (a .vx) (a .vy) (speed-size (a .vx) (g .speed-x)) (speed-size (a .vy) (g .speed-y)))
+    ap validRow (from .2) ∙ ranged-valid (drift-ranged (a .drift) (g .in-range))
 
 pub table-valid : (l : Ledger) (t : List ℤ) → Good l → TableMatches l t → (slot n : ℕ) → slot < slots → n < cells → validRow (rowAt t slot n) ≡ true
 unfolding rowsIn
@@ -75,36 +77,27 @@ module _ (c p q n : ℕ) (r : Report) (live-p : isLive c p ≡ true) (live-q : i
       (λ e. eq-eqb q p (same-slot c q p live-q live-p (sym (slot-of-key-in q r) ∙ eqb-true (slotOfKey (keyIn q r)) (slotOf p) e)))
       (λ e. eq-eqb (slotOfKey (keyIn q r)) (slotOf p) (slot-of-key-in q r ∙ ap slotOf (eqb-true q p e)))
 
-  same-cell : eqb (numberOfKey (keyIn q r)) n ≡ (eqb (placeIn q r .column) (cellOfNumber n .column) && eqb (placeIn q r .row) (cellOfNumber n .row))
-  same-cell = same-truth _ _ there back
+  same-place : eqb (numberOfKey (keyIn q r)) n ≡ sameCell (placeIn q r) (cellOfNumber n)
+  same-place = same-truth _ _ there back
     where
       own : OnGrid (placeIn q r)
       own = cell-on (xAt r (referenceTime q)) (yAt r (referenceTime q))
 
-      there : eqb (numberOfKey (keyIn q r)) n ≡ true → (eqb (placeIn q r .column) (cellOfNumber n .column) && eqb (placeIn q r .row) (cellOfNumber n .row)) ≡ true
+      there : eqb (numberOfKey (keyIn q r)) n ≡ true → sameCell (placeIn q r) (cellOfNumber n) ≡ true
       there e =
           let number = sym (number-of-key-in q r) ∙ eqb-true (numberOfKey (keyIn q r)) n e in
-          let cell : placeIn q r ≡ cellOfNumber n = sym (cell-of-its-number (placeIn q r) own) ∙ ap cellOfNumber number in
-          and-true _ _ (eq-eqb _ _ (ap (λ (x : Cell). x .column) cell)) (eq-eqb _ _ (ap (λ (x : Cell). x .row) cell))
+          cell-same (sym (cell-of-its-number (placeIn q r) own) ∙ ap cellOfNumber number)
 
-      back : (eqb (placeIn q r .column) (cellOfNumber n .column) && eqb (placeIn q r .row) (cellOfNumber n .row)) ≡ true → eqb (numberOfKey (keyIn q r)) n ≡ true
+      back : sameCell (placeIn q r) (cellOfNumber n) ≡ true → eqb (numberOfKey (keyIn q r)) n ≡ true
       back e =
-          let u = eqb-true (placeIn q r .column) (cellOfNumber n .column) (and-left _ (eqb (placeIn q r .row) (cellOfNumber n .row)) e) in
-          let v = eqb-true (placeIn q r .row) (cellOfNumber n .row) (and-right (eqb (placeIn q r .column) (cellOfNumber n .column)) _ e) in
-          let cell : placeIn q r ≡ cellOfNumber n = λ i. record { column = u i; row = v i } in
-          eq-eqb (numberOfKey (keyIn q r)) n (number-of-key-in q r ∙ ap curveNumber cell ∙ number-of-its-cell n here)
+          eq-eqb (numberOfKey (keyIn q r)) n
+          (number-of-key-in q r ∙ ap curveNumber (same-cell (placeIn q r) (cellOfNumber n) e) ∙ number-of-its-cell n here)
 
   pub placed-alike : liesAt (slotOf p) n (placedIn q r) ≡ isThere p (cellOfNumber n) (placement q r)
-  placed-alike = ap₂ _&&_ same-phase same-cell
+  placed-alike = ap₂ _&&_ same-phase same-place
 
 pub placeable : (p : ℕ) (r : Report) → inRange r ≡ true → Placeable (placedIn p r)
-placeable p r h =
-    let a = ranges r h in
-    record {
-      slot-on = omega (arith, slot-of-key-in p r, slot-on p);
-      small-x = speed-size (r .vx) (a .vx);
-      small-y = speed-size (r .vy) (a .vy);
-    }
+placeable p r h = record { slot-on = omega (arith, slot-of-key-in p r, slot-on p); in-range = drift-in-range r h }
 
 -- ---- the clock step
 
@@ -129,7 +122,7 @@ bounds-alike now time p n (h ∷ hs) each live k =
     bounds = boundsOf speeds
 
     one : Row
-    one = rowOfSpeed (h .report .vx) (h .report .vy)
+    one = rowOfDrift (driftOf (h .report))
 
     phase : stays now time (recordOf h) ≡ isLive (phaseOf time) (h .phase)
     phase = stays-held now time h (each h (List·Memᴰ·head refl))
@@ -142,7 +135,10 @@ bounds-alike now time p n (h ∷ hs) each live k =
     anew a = map (λ x. placement (phaseOf time) (x .report)) (cond a (h ∷ passing (Ledger.moves time) hs) (passing (Ledger.moves time) hs))
 
     go : (a : Bool) → cond a (cond (isThere p (cellOfNumber n) (placement (phaseOf time) (h .report))) (joined one bounds) bounds) bounds ≡ boundsOf (speedsPlaced p (cellOfNumber n) (anew a))
-    go true = inner (isThere p (cellOfNumber n) (placement (phaseOf time) (h .report)))
+    go true =
+        let new = placement (phaseOf time) (h .report) in
+        inner (isThere p (cellOfNumber n) new)
+        ∙ ap boundsOf (sym (map-passing ownRow (isThere p (cellOfNumber n)) new (newPlacements time hs)))
     go false = refl
 
 module _ (l : Ledger) (t : List ℤ) (time : ℤ) (good : Good l) (table : TableMatches l t) (is-time : isTime time ≡ true) (later : leZ (l .now) time ≡ true) where
@@ -199,7 +195,7 @@ module _ (l : Ledger) (t : List ℤ) (time : ℤ) (good : Good l) (table : Table
     unfolding stepped
     good-after = stepped-good time l good is-time later .places
 
-    row-stepped : rowAt (withSpeeds emptied anew) (slotOf p) n ≡ boundsOf (speedsPlaced p (cellOfNumber n) (livePlacements time (l .placements) ++ newPlacements time (l .held)))
+    row-stepped : rowAt (widenedByAll emptied anew) (slotOf p) n ≡ boundsOf (speedsPlaced p (cellOfNumber n) (livePlacements time (l .placements) ++ newPlacements time (l .held)))
     row-stepped =
         let v : validRow (rowAt emptied (slotOf p) n) ≡ true =
         ap validRow kept-row
@@ -210,7 +206,7 @@ module _ (l : Ledger) (t : List ℤ) (time : ℤ) (good : Good l) (table : Table
         ∙ sym (bounds-append old new (speeds-valid time p (cellOfNumber n) (newPlacements time (l .held)) (λ a m. good-after a (Memᴰ·append-right (livePlacements time (l .placements)) m))))
         ∙ sym (ap boundsOf (speeds-append p (cellOfNumber n) (livePlacements time (l .placements)) (newPlacements time (l .held))))
 
-  rest-stepped : (slot n : ℕ) → slot < slots → n < cells → ((p : ℕ) → isLive c′ p ≡ true → slotOf p ≡ slot → ⊥) → rowAt (withSpeeds emptied anew) slot n ≡ emptyRow
+  rest-stepped : (slot n : ℕ) → slot < slots → n < cells → ((p : ℕ) → isLive c′ p ≡ true → slotOf p ≡ slot → ⊥) → rowAt (widenedByAll emptied anew) slot n ≡ emptyRow
   unfolding boundsOf
   rest-stepped slot n h here far =
       let was : (q : ℕ) → isLive c q ≡ true → slotOf q ≡ slot → ⊥ =
@@ -220,7 +216,7 @@ module _ (l : Ledger) (t : List ℤ) (time : ℤ) (good : Good l) (table : Table
       ∙ ap₂ (λ (x : Row) (s : List Row). joined x (boundsOf s)) empty (none-elsewhere c′ (moves (l .now) time) slot n (recordsOfHeld (l .held)) (far c′ (current-live c′)))
       ∙ joined-same emptyRow
 
-  pub stepped-table : TableMatches (stepped time l) (withSpeeds emptied anew)
+  pub stepped-table : TableMatches (stepped time l) (widenedByAll emptied anew)
   unfolding stepped rowsIn
   stepped-table =
       record { table-long = with-speeds-length emptied anew ∙ long; rows-are = λ p live n h. row-stepped p n live h; rest-empty = rest-stepped }
@@ -238,10 +234,13 @@ module _ (l : Ledger) (t : List ℤ) (r : Report) (good : Good l) (table : Table
   one-placeable x m = subst Placeable (sym (List·Memᴰ·eq-of-singleton m)) (placeable now r ranged)
 
   speeds-alike : (p n : ℕ) → isLive now p ≡ true → n < cells → speedsAt (slotOf p) n one ≡ speedsPlaced p (cellOfNumber n) (placement now r ∷ [])
-  unfolding speedsAt speedsPlaced
-  speeds-alike p n live here = rw (placed-alike now p now n r live (current-live now) here)
+  unfolding speedsAt speedsPlaced passing
+  speeds-alike p n live here =
+      map-passing Records.ownRow (liesAt (slotOf p) n) (placedIn now r) []
+      ∙ ap (λ (b : Bool). cond b (rowOfDrift (driftOf r) ∷ []) []) (placed-alike now p now n r live (current-live now) here)
+      ∙ sym (map-passing ownRow (isThere p (cellOfNumber n)) (placement now r) [])
 
-  row-placed : (p : ℕ) → isLive now p ≡ true → (n : ℕ) → n < cells → rowAt (withSpeeds t one) (slotOf p) n ≡ boundsOf (speedsPlaced p (cellOfNumber n) (l .placements ++ placement now r ∷ []))
+  row-placed : (p : ℕ) → isLive now p ≡ true → (n : ℕ) → n < cells → rowAt (widenedByAll t one) (slotOf p) n ≡ boundsOf (speedsPlaced p (cellOfNumber n) (l .placements ++ placement now r ∷ []))
   unfolding rowsIn
   row-placed p live n here =
       let one-good : (a : Placement) → List·Memᴰ a (placement now r ∷ []) → GoodPlacement (l .now) a =
@@ -252,8 +251,8 @@ module _ (l : Ledger) (t : List ℤ) (r : Report) (good : Good l) (table : Table
       (speeds-valid (l .now) p (cellOfNumber n) (placement now r ∷ []) one-good))
       ∙ sym (ap boundsOf (speeds-append p (cellOfNumber n) (l .placements) (placement now r ∷ [])))
 
-  rest-placed : (slot n : ℕ) → slot < slots → n < cells → ((p : ℕ) → isLive now p ≡ true → slotOf p ≡ slot → ⊥) → rowAt (withSpeeds t one) slot n ≡ emptyRow
-  unfolding boundsOf speedsAt
+  rest-placed : (slot n : ℕ) → slot < slots → n < cells → ((p : ℕ) → isLive now p ≡ true → slotOf p ≡ slot → ⊥) → rowAt (widenedByAll t one) slot n ≡ emptyRow
+  unfolding boundsOf speedsAt passing
   rest-placed slot n h here far =
       let empty = table .rest-empty slot n h here far in
       let other : eqb (slotOfKey (keyIn now r)) slot ≡ false =
@@ -263,7 +262,7 @@ module _ (l : Ledger) (t : List ℤ) (r : Report) (good : Good l) (table : Table
       ∙ ap₂ (λ (x : Row) (s : List Row). joined x (boundsOf s)) empty none
       ∙ joined-same emptyRow
 
-  pub report-table : TableMatches (withReport r l) (withSpeeds t one)
+  pub report-table : TableMatches (withReport r l) (widenedByAll t one)
   unfolding withReport rowsIn
   report-table =
       record { table-long = with-speeds-length t one ∙ table .table-long; rows-are = row-placed; rest-empty = rest-placed }

@@ -16,6 +16,7 @@ use Rattle.grid.specs.Reports.{isTime, isSpeed, inRange}
 use Rattle.rows.specs.Row.{emptyRow}
 use Rattle.rows.specs.Phases.{phaseOf, isLive, slotOf, slots}
 use Rattle.rows.specs.Table.{tableWords, rowAt}
+use Rattle.rows.proofs.RowLaws.{DriftInRange}
 use Rattle.records.specs.Words.{Words, timeIn, recordsIn}
 use Rattle.words.specs.Needs.{CanChange}
 use Rattle.store.specs.Changes.{inserted, placedIn}
@@ -45,8 +46,7 @@ pub record GoodHeld (now : ℤ) (placements : List Placement) (h : Held) : Type 
 pub record GoodPlacement (now : ℤ) (a : Placement) : Type 0 where
   pub live : isLive (phaseOf now) (a .phase) ≡ true
   pub on-grid : OnGrid (a .cell)
-  pub speed-x : isSpeed (a .vx) ≡ true
-  pub speed-y : isSpeed (a .vy) ≡ true
+  pub in-range : DriftInRange (a .drift)
 
 pub record Good (l : Ledger) : Type 0 where
   pub time : isTime (l .now) ≡ true

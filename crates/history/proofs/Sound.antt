@@ -4,20 +4,21 @@ use mathlib.Core.Path.{_≡_, refl, ap, ap₂, _∙_}
 use mathlib.Core.Bool.{Bool, true, _&&_}
 use mathlib.Core.List.{List, [], _∷_, List·Memᴰ, List·Memᴰ·head, List·Memᴰ·tail}
 use lib.ListN.{length}
+use Rattle.ints.specs.Lists.{every}
 use Rattle.grid.specs.Places.{OnGrid}
 use Rattle.grid.specs.Curve.{curveNumber}
 use Rattle.grid.specs.Reports.{isTime, xAt, yAt}
 use Rattle.grid.specs.declared.Cell.{Cell}
 use Rattle.grid.proofs.Places.{cell-on}
 use Rattle.grid.proofs.Curve.{number-below, cell-of-its-number}
-use Rattle.rows.specs.Row.{holds}
+use Rattle.rows.specs.Row.{driftOf, holds}
 use Rattle.rows.specs.Phases.{referenceTime}
 use Rattle.rows.specs.Table.{rowAt}
 use Rattle.rows.specs.declared.Row.{Row}
 use Rattle.rows.proofs.RowLaws.{holds-one, holds-within, bounds-hold}
 use Rattle.rows.proofs.TableLaws.{valid-of-rows}
 use Rattle.records.specs.Order.{keyIn, slotOfKey, numberOfKey}
-use Rattle.records.specs.Soundness.{allSound, idsDistinct, speedsInRows}
+use Rattle.records.specs.Soundness.{inOwnRow, allSound, idsDistinct, speedsInRows}
 use Rattle.records.specs.Words.{Words, recordsIn, areSound}
 use Rattle.records.specs.declared.Record.{Record}
 use Rattle.records.proofs.SoundLawsKeys.{slot-of-key-in, number-of-key-in}
@@ -33,12 +34,8 @@ module _ (l : Ledger) (w : Words) (good : Good l) (match : Matches l w) where
   pub count-is : length (recordsIn w) ≡ length (l .held)
   count-is = ap length (match .records-are) ∙ records-length (l .held)
 
-  -- whether the speeds of a record are in its row
-  abbrev inOwnRow : Record → Bool
-  inOwnRow r = holds (rowAt (w .table) (slotOfKey (r .key)) (numberOfKey (r .key))) (r .report .vx) (r .report .vy)
-
   -- the row of a held report is the ledger's row of its phase and cell, and holds the speeds placed there
-  speeds-held : (h : Held) → GoodHeld (l .now) (l .placements) h → inOwnRow (recordOf h) ≡ true
+  speeds-held : (h : Held) → GoodHeld (l .now) (l .placements) h → inOwnRow (w .table) (recordOf h) ≡ true
   unfolding rowsIn
   speeds-held h g =
       let r = h .report in
@@ -49,18 +46,18 @@ module _ (l : Ledger) (w : Words) (good : Good l) (match : Matches l w) where
       (λ i. rowAt (w .table) (slot-of-key-in p r i) (number-of-key-in p r i))
       ∙ match .table .rows-are p (g .live) (curveNumber cell) (number-below cell own)
       ∙ ap (rowsIn l p) (cell-of-its-number cell own) in
-      ap (λ (x : Row). holds x (r .vx) (r .vy)) row
-      ∙ holds-within (bounds-hold (speedsPlaced p cell (l .placements)) (speed-placed (l .placements) (g .placed))) (r .vx) (r .vy) (holds-one (r .vx) (r .vy))
+      ap (λ (x : Row). holds x (driftOf r)) row
+      ∙ holds-within (bounds-hold (speedsPlaced p cell (l .placements)) (speed-placed (l .placements) (g .placed))) (driftOf r) (holds-one (driftOf r))
 
-  speeds-more : (r : Record) (rs : List Record) → speedsInRows (w .table) (r ∷ rs) ≡ inOwnRow r && speedsInRows (w .table) rs
-  unfolding speedsInRows
+  speeds-more : (r : Record) (rs : List Record) → speedsInRows (w .table) (r ∷ rs) ≡ inOwnRow (w .table) r && speedsInRows (w .table) rs
+  unfolding every
   speeds-more r rs = refl
 
   all-held : (hs : List Held) → ((h : Held) → List·Memᴰ h hs → GoodHeld (l .now) (l .placements) h) → speedsInRows (w .table) (recordsOfHeld hs) ≡ true
-  unfolding recordsOfHeld speedsInRows
+  unfolding recordsOfHeld every
   all-held [] each = refl
   all-held (h ∷ hs) each =
-      inserted-passes (speedsInRows (w .table)) inOwnRow speeds-more (recordOf h) (recordsOfHeld hs)
+      inserted-passes (speedsInRows (w .table)) (inOwnRow (w .table)) speeds-more (recordOf h) (recordsOfHeld hs)
       (speeds-held h (each h (List·Memᴰ·head refl)))
       (all-held hs (λ g m. each g (List·Memᴰ·tail m)))
 

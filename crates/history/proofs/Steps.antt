@@ -21,7 +21,7 @@ use Rattle.rows.specs.Phases.{phaseOf}
 use Rattle.records.specs.Order.{hasId}
 use Rattle.records.specs.Words.{Words, timeIn, recordsIn}
 use Rattle.records.specs.declared.Record.{Record}
-use Rattle.store.specs.Changes.{inserted, removed, placedIn, steppedRecords, withSpeeds}
+use Rattle.store.specs.Changes.{inserted, removed, placedIn, steppedRecords, widenedByAll}
 use Rattle.words.specs.Words as Index
 use Rattle.words.specs.Needs.{CanPlace}
 use Rattle.words.proofs.StepLaws.{stepped-time, stepped-records, stepped-can-change}
@@ -110,7 +110,7 @@ pub place-left :
     → isHeld (r .id) (l .held) ≡ false
     → length (l .held) < capacity
     → Left (withReport r l) (Index.placed r w)
-unfolding withReport recordsOfHeld withSpeeds Index.placed
+unfolding withReport recordsOfHeld widenedByAll Index.placed
 place-left l w left r now ranged new room =
     let good = left .good in
     let match = left .matches in
@@ -126,7 +126,7 @@ place-left l w left r now ranged new room =
         can-change = placed-can-change w r can other;
         time-is = placed-time r w ∙ match .time-is;
         records-are = placed-records r w ∙ ap₂ inserted phase (match .records-are);
-        table = subst (λ (x : Record). TableMatches (withReport r l) (withSpeeds (w .table) (x ∷ []))) (sym phase) (report-table l (w .table) r good (match .table) ranged);
+        table = subst (λ (x : Record). TableMatches (withReport r l) (widenedByAll (w .table) (x ∷ []))) (sym phase) (report-table l (w .table) r good (match .table) ranged);
       };
     }
 

@@ -12,11 +12,13 @@ use Rattle.ints.proofs.Members.{passing, passing-in, passing-has, some, some-pa
 use Rattle.ints.proofs.Marks.{bit, counted}
 use Rattle.grid.specs.Units.{cells}
 use Rattle.grid.specs.Curve.{cellOfNumber}
+use Rattle.grid.specs.Places.{sameCell}
 use Rattle.grid.specs.Reports.{isListed}
 use Rattle.grid.specs.declared.Cell.{Cell}
 use Rattle.grid.specs.declared.Query.{Query}
+use Rattle.grid.proofs.Places.{same-cell, cell-same}
 use Rattle.grid.proofs.Curve.{cell-of-its-number}
-use Rattle.rows.specs.Row.{holds}
+use Rattle.rows.specs.Row.{driftOf, holds}
 use Rattle.rows.specs.Phases.{phaseOf, isLive}
 use Rattle.rows.proofs.RowLaws.{holds-within, holds-one, bounds-valid, bounds-hold}
 use Rattle.methods.specs.Aims.{aimIn}
@@ -36,21 +38,8 @@ use Rattle.history.proofs.PlacedRows.{speeds-valid}
 abbrev pub isListedHeld : Query → Held → Bool
 isListedHeld query h = isListed query (h .report)
 
-listed-held-is : (query : Query) (hs : List Held) → listedHeld query hs ≡ passing (isListedHeld query) hs
-unfolding listedHeld passing
-listed-held-is query [] = refl
-listed-held-is query (h ∷ hs) =
-    ap (λ (more : List Held). cond (isListedHeld query h) (h ∷ more) more) (listed-held-is query hs)
-
 abbrev isThere : ℕ → Cell → Held → Bool
-isThere p c h =
-    eqb (h .phase) p
-    && (eqb (placeIn p (h .report) .column) (c .column) && eqb (placeIn p (h .report) .row) (c .row))
-
-useful-among : (p : ℕ) (c : Cell) (hs : List Held) → isUseful p c hs ≡ some (isThere p c) hs
-unfolding isUseful some
-useful-among p c [] = refl
-useful-among p c (h ∷ hs) = ap (λ (more : Bool). isThere p c h || more) (useful-among p c hs)
+isThere p c h = eqb (h .phase) p && sameCell (placeIn p (h .report)) c
 
 pub useful-cells-are : (p : ℕ) (hs : List Held) (cs : List Cell) → usefulCells p hs cs ≡ countedCells (λ c. isUseful p c hs) cs
 unfolding usefulCells countedCells
@@ -61,27 +50,18 @@ useful-cells-are p hs (c ∷ cs) = ap (λ (more : ℕ). bit (isUseful p c hs) + 
 pub useful-from : (query : Query) (p : ℕ) (c : Cell) (hs : List Held) → isUseful p c (listedHeld query hs) ≡ true
     → (h : Held) × List·Memᴰ h hs × (isListedHeld query h ≡ true) × (h .phase ≡ p) × (placeIn p (h .report) ≡ c)
 useful-from query p c hs u =
-    let a = some-passes (isThere p c) (listedHeld query hs) (sym (useful-among p c (listedHeld query hs)) ∙ u) in
+    let a = some-passes (isThere p c) (listedHeld query hs) u in
     let h = a .0 in
-    let b = passing-in (isListedHeld query) hs (subst (λ (l : List Held). List·Memᴰ h l) (listed-held-is query hs) (a .1)) in
-    let own = placeIn p (h .report) in
-    let place = eqb (own .column) (c .column) && eqb (own .row) (c .row) in
-    let there = and-right (eqb (h .phase) p) place (a .2) in
-    let column = eqb-true (own .column) (c .column) (and-left (eqb (own .column) (c .column)) (eqb (own .row) (c .row)) there) in
-    let row = eqb-true (own .row) (c .row) (and-right (eqb (own .column) (c .column)) (eqb (own .row) (c .row)) there) in
-    (h, b .0, b .1, eqb-true (h .phase) p (and-left (eqb (h .phase) p) place (a .2)), λ i. record { column = column i; row = row i })
+    let b = passing-in (isListedHeld query) hs (a .1) in
+    let place = sameCell (placeIn p (h .report)) c in
+    (h, b .0, b .1, eqb-true (h .phase) p (and-left (eqb (h .phase) p) place (a .2)), same-cell _ c (and-right (eqb (h .phase) p) place (a .2)))
 
 pub from-useful : (query : Query) (p : ℕ) (c : Cell) (hs : List Held) {h : Held} → List·Memᴰ h hs → isListedHeld query h ≡ true → h .phase ≡ p → placeIn p (h .report) ≡ c
     → isUseful p c (listedHeld query hs) ≡ true
 from-useful query p c hs {h} m listed e place =
-    let own = placeIn p (h .report) in
-    useful-among p c (listedHeld query hs)
-    ∙ passes-some (isThere p c) (listedHeld query hs) {a = h}
-    (rw (listed-held-is query hs) (passing-has (isListedHeld query) hs m listed))
-    (and-true (eqb (h .phase) p) (eqb (own .column) (c .column) && eqb (own .row) (c .row)) (eq-eqb (h .phase) p e)
-    (and-true (eqb (own .column) (c .column)) (eqb (own .row) (c .row))
-    (eq-eqb (own .column) (c .column) (ap (λ (k : Cell). k .column) place))
-    (eq-eqb (own .row) (c .row) (ap (λ (k : Cell). k .row) place))))
+    passes-some (isThere p c) (listedHeld query hs) {a = h}
+    (passing-has (isListedHeld query) hs m listed)
+    (and-true (eqb (h .phase) p) (sameCell (placeIn p (h .report)) c) (eq-eqb (h .phase) p e) (cell-same place))
 
 -- ---- choices by the ledger's rows
 
@@ -100,8 +80,8 @@ module _ (l : Ledger) (good : Good l) (query : Query) (fit : FitAsk (l .now) que
       let g = good .holds h m in
       let float = h .report in
       let placed = placeIn (h .phase) float in
-      let row : holds (rowsIn l (h .phase) placed) (float .vx) (float .vy) ≡ true =
-      holds-within (bounds-hold (speedsPlaced (h .phase) placed (l .placements)) (speed-placed (l .placements) (g .placed))) (float .vx) (float .vy) (holds-one (float .vx) (float .vy)) in
+      let row : holds (rowsIn l (h .phase) placed) (driftOf float) ≡ true =
+      holds-within (bounds-hold (speedsPlaced (h .phase) placed (l .placements)) (speed-placed (l .placements) (g .placed))) (driftOf float) (holds-one (driftOf float)) in
       listed-is-read (rowsIn l (h .phase)) (valid-here (h .phase)) (h .phase) query in-order-here float row listed method
 
   -- the useful ones among the chosen cells are the cells of the listed floats

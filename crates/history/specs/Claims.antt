@@ -12,6 +12,7 @@ use Rattle.grid.specs.declared.Cell.{Cell}
 use Rattle.grid.specs.declared.Query.{Query}
 use Rattle.rows.specs.Row.{holds}
 use Rattle.rows.specs.Phases.{phaseOf, isLive, livePhases, slotOf}
+use Rattle.rows.specs.declared.Drift.{Drift}
 use Rattle.rows.specs.declared.Row.{Row}
 use Rattle.methods.specs.Aims.{aimIn}
 use Rattle.methods.specs.Chosen.{rowsOfSlot}
@@ -113,7 +114,7 @@ phaseNow w = phaseOf (timeIn w)
 
 -- every speed that one row holds the other holds
 abbrev pub HoldsRow : Row → Row → Type 0
-HoldsRow wide narrow = (vx vy : ℤ) → holds narrow vx vy ≡ true → holds wide vx vy ≡ true
+HoldsRow wide narrow = (drift : Drift) → holds narrow drift ≡ true → holds wide drift ≡ true
 
 -- over every list of calls, accepted or refused, from any words on: in a phase that is live before it and after it, each cell's row holds all that it
 -- held before

@@ -1,12 +1,12 @@
--- Lists by membership: what a function makes of the elements, the elements that pass a test, and whether one passes.
+-- Lists by membership: what a function makes of the elements, the elements that pass a test, and whether one passes or all do.
 -- Assumes nothing.
 use mathlib.Core.Path.{_≡_, refl, sym, ap, ap₂, _∙_}
 use mathlib.Core.Bool.{Bool, true, false, _||_, cond}
 use mathlib.Core.List.{List, [], _∷_, _++_, map, List·Memᴰ, List·Memᴰ·head, List·Memᴰ·tail, List·Memᴰ·cases-cons, List·Memᴰ·not-nil}
 use mathlib.Core.Logic.{⊎-elim}
-unfoldable pub use Rattle.ints.specs.Lists.{passing}
+unfoldable pub use Rattle.ints.specs.Lists.{passing, some, every}
 use Rattle.ints.proofs.Parts.{true-false}
-use Rattle.ints.proofs.Truth.{or-left, or-right}
+use Rattle.ints.proofs.Truth.{or-left, or-right, and-true, and-left, and-right}
 
 pub false-of : (b : Bool) → (b ≡ true → ⊥) → b ≡ false
 false-of true n = absurd (n refl)
@@ -78,11 +78,29 @@ unfolding passing
 passing-none f [] h = refl
 passing-none f (x ∷ xs) h = rw (h x (List·Memᴰ·head refl)) (passing-none f xs (λ a m. h a (List·Memᴰ·tail m)))
 
--- ---- whether one passes
+-- of those that pass a test g, all that pass f, where f passes no element that g does not
+pub passing-twice : {A : Type 0} (f g : A → Bool) (xs : List A) → ((a : A) → f a ≡ true → g a ≡ true) → passing f (passing g xs) ≡ passing f xs
+unfolding passing
+passing-twice f g [] h = refl
+passing-twice {A} f g (x ∷ xs) h = go (g x) refl (f x) refl (passing-twice f g xs h)
+  where
+    go : (t : Bool) → g x ≡ t → (u : Bool) → f x ≡ u → passing f (passing g xs) ≡ passing f xs
+        → passing f (cond t (x ∷ passing g xs) (passing g xs)) ≡ cond u (x ∷ passing f xs) (passing f xs)
+    go true e u k same = rw (k, same)
+    go false e true k same = absurd (true-false (sym (h x k) ∙ e))
+    go false e false k same = same
 
-unfoldable pub some : {A : Type 0} → (A → Bool) → List A → Bool
-some f [] = false
-some f (a ∷ xs) = f a || some f xs
+-- what a function makes of the elements that pass, of one element more
+pub map-passing : {A B : Type 0} (g : A → B) (f : A → Bool) (a : A) (xs : List A)
+    → map g (passing f (a ∷ xs)) ≡ cond (f a) (g a ∷ map g (passing f xs)) (map g (passing f xs))
+unfolding passing
+map-passing g f a xs = go (f a)
+  where
+    go : (t : Bool) → map g (cond t (a ∷ passing f xs) (passing f xs)) ≡ cond t (g a ∷ map g (passing f xs)) (map g (passing f xs))
+    go true = refl
+    go false = refl
+
+-- ---- whether one passes
 
 pub some-passes : {A : Type 0} (f : A → Bool) (xs : List A) → some f xs ≡ true → (a : A) × List·Memᴰ a xs × (f a ≡ true)
 unfolding some
@@ -100,3 +118,18 @@ passes-some {A} f (b ∷ bs) {a} m h =
     ⊎-elim (λ (p : a ≡ b). or-left (f b) (some f bs) (sym (ap f p) ∙ h))
     (λ k. or-right (f b) (some f bs) (passes-some f bs k h))
     (List·Memᴰ·cases-cons m)
+
+-- ---- whether all pass
+
+pub every-each : {A : Type 0} (f : A → Bool) (xs : List A) {a : A} → every f xs ≡ true → List·Memᴰ a xs → f a ≡ true
+unfolding every
+every-each f [] h m = absurd (List·Memᴰ·not-nil m)
+every-each {A} f (b ∷ bs) {a} h m =
+    ⊎-elim (λ (p : a ≡ b). ap f p ∙ and-left (f b) (every f bs) h)
+    (λ k. every-each f bs (and-right (f b) (every f bs) h) k)
+    (List·Memᴰ·cases-cons m)
+
+pub each-every : {A : Type 0} (f : A → Bool) (xs : List A) → ((a : A) → List·Memᴰ a xs → f a ≡ true) → every f xs ≡ true
+unfolding every
+each-every f [] h = refl
+each-every f (a ∷ xs) h = and-true (f a) (every f xs) (h a (List·Memᴰ·head refl)) (each-every f xs (λ b m. h b (List·Memᴰ·tail m)))

@@ -2,7 +2,7 @@
 -- Assumes nothing.
 use mathlib.Core.Path.{_≡_, refl, sym, ap, _∙_}
 use mathlib.Core.Bool.{Bool, true, false, cond, _&&_, _||_}
-use mathlib.Core.List.{List, [], _∷_, _++_, List·Memᴰ, List·Memᴰ·head, List·Memᴰ·tail, List·Memᴰ·cases-cons, List·Memᴰ·not-nil}
+use mathlib.Core.List.{List, [], _∷_, _++_, map, List·Memᴰ, List·Memᴰ·head, List·Memᴰ·tail, List·Memᴰ·cases-cons, List·Memᴰ·not-nil}
 use mathlib.Core.Logic.{⊎-elim}
 use Prim.Native.Nat.{ℕ, suc, _≤_}
 use native.Mathlib.Omega.{arith}
@@ -11,12 +11,14 @@ use lib.IntN.{ℤ}
 use lib.ListN.{length, length-map}
 use borrow.Author.Tests.{eqb-true, eq-eqb}
 use Rattle.ints.specs.Whole.{eqZ}
-use Rattle.ints.specs.Lists.{passing}
+use Rattle.ints.specs.Lists.{passing, some}
 use Rattle.ints.proofs.Parts.{true-false}
 use Rattle.ints.proofs.Truth.{and-true, and-left}
-use Rattle.ints.proofs.Members.{map-in, map-has, passing-in, passing-has}
+use Rattle.ints.proofs.Members.{false-of, map-in, map-has, map-append, passing-in, passing-has, passing-append, passing-none, passing-twice}
+use Rattle.grid.specs.Places.{sameCell}
 use Rattle.grid.specs.declared.Cell.{Cell}
-use Rattle.rows.specs.Row.{rowOfSpeed}
+use Rattle.grid.proofs.Places.{cell-same}
+use Rattle.rows.specs.Row.{rowOfDrift}
 use Rattle.rows.specs.Phases.{phaseOf, isLive}
 use Rattle.rows.specs.declared.Row.{Row}
 use Rattle.ledger.specs.Machine.{Held, Placement, placement, stays, moves, steppedOne, steppedHeld, newPlacements, livePlacements, isHeld, without, speedsPlaced}
@@ -35,7 +37,7 @@ unfolding steppedHeld
 stepped-length time hs = length-map hs (steppedOne time)
 
 pub stepped-held : (time : ℤ) (id : ℤ) (hs : List Held) → isHeld id (steppedHeld time hs) ≡ isHeld id hs
-unfolding steppedHeld isHeld
+unfolding steppedHeld some
 stepped-held time id [] = refl
 stepped-held time id (h ∷ hs) = rw (same-report time h, stepped-held time id hs)
 
@@ -56,7 +58,7 @@ without-member {x} id (h ∷ hs) m = go (eqZ (h .report .id) id) (without-member
     go false f k = ⊎-elim (λ e. List·Memᴰ·head e) (λ n. List·Memᴰ·tail (f n)) (List·Memᴰ·cases-cons k)
 
 pub without-length : (id : ℤ) (hs : List Held) → isHeld id hs ≡ true → suc (length (without id hs)) ≡ length hs
-unfolding without isHeld
+unfolding without some
 without-length id [] h = absurd (true-false (sym h))
 without-length id (g ∷ hs) h = go (eqZ (g .report .id) id) (without-length id hs) h
   where
@@ -74,7 +76,7 @@ without-few id (g ∷ hs) = go (eqZ (g .report .id) id) (without-few id hs)
     go false k = omega arith
 
 pub without-held : (id other : ℤ) (hs : List Held) → isHeld other hs ≡ false → isHeld other (without id hs) ≡ false
-unfolding without isHeld
+unfolding without some
 without-held id other [] n = n
 without-held id other (g ∷ hs) n = go (eqZ (g .report .id) id) (without-held id other hs) (eqZ (g .report .id) other) n
   where
@@ -115,86 +117,42 @@ new-placed time hs m e =
 -- ---- the speeds placed in a cell of a phase
 
 abbrev pub isThere : ℕ → Cell → Placement → Bool
-isThere p c a = eqb (a .phase) p && (eqb (a .cell .column) (c .column) && eqb (a .cell .row) (c .row))
+isThere p c a = eqb (a .phase) p && sameCell (a .cell) c
+
+abbrev pub ownRow : Placement → Row
+ownRow a = rowOfDrift (a .drift)
+
+there-in : (p : ℕ) (c : Cell) (a : Placement) → isThere p c a ≡ true → a .phase ≡ p
+there-in p c a h = eqb-true (a .phase) p (and-left (eqb (a .phase) p) (sameCell (a .cell) c) h)
 
 pub speeds-append : (p : ℕ) (c : Cell) (xs ys : List Placement) → speedsPlaced p c (xs ++ ys) ≡ speedsPlaced p c xs ++ speedsPlaced p c ys
 unfolding speedsPlaced
-speeds-append p c [] ys = refl
-speeds-append p c (a ∷ xs) ys = go (isThere p c a) (speeds-append p c xs ys)
-  where
-    one : Row
-    one = rowOfSpeed (a .vx) (a .vy)
-
-    go : (t : Bool) → speedsPlaced p c (xs ++ ys) ≡ speedsPlaced p c xs ++ speedsPlaced p c ys
-        → cond t (one ∷ speedsPlaced p c (xs ++ ys)) (speedsPlaced p c (xs ++ ys)) ≡ cond t (one ∷ speedsPlaced p c xs) (speedsPlaced p c xs) ++ speedsPlaced p c ys
-    go true e = ap (λ (l : List Row). one ∷ l) e
-    go false e = e
+speeds-append p c xs ys =
+    ap (map ownRow) (passing-append (isThere p c) xs ys) ∙ map-append ownRow (passing (isThere p c) xs) (passing (isThere p c) ys)
 
 -- those of a phase that lives on stay
 pub speeds-live : (time : ℤ) (p : ℕ) (c : Cell) (ps : List Placement) → isLive (phaseOf time) p ≡ true → speedsPlaced p c (livePlacements time ps) ≡ speedsPlaced p c ps
-unfolding speedsPlaced livePlacements passing
-speeds-live time p c [] live = refl
-speeds-live time p c (a ∷ ps) live = go (isLive (phaseOf time) (a .phase)) refl (isThere p c a) refl (speeds-live time p c ps live)
-  where
-    one : Row
-    one = rowOfSpeed (a .vx) (a .vy)
-
-    go : (t : Bool) → isLive (phaseOf time) (a .phase) ≡ t → (u : Bool) → isThere p c a ≡ u → speedsPlaced p c (livePlacements time ps) ≡ speedsPlaced p c ps
-        → speedsPlaced p c (cond t (a ∷ livePlacements time ps) (livePlacements time ps)) ≡ cond u (one ∷ speedsPlaced p c ps) (speedsPlaced p c ps)
-    go true e u f k = rw (f, k)
-    go false e true f k =
-        let same = eqb-true (a .phase) p (and-left (eqb (a .phase) p) _ f) in
-        absurd (true-false (sym live ∙ ap (isLive (phaseOf time)) (sym same) ∙ e))
-    go false e false f k = k
+unfolding speedsPlaced livePlacements
+speeds-live time p c ps live =
+    ap (map ownRow) (passing-twice (isThere p c) (λ a. isLive (phaseOf time) (a .phase)) ps
+    (λ a h. ap (isLive (phaseOf time)) (there-in p c a h) ∙ live))
 
 -- a phase in which nothing is placed has none
 pub no-speeds : (p : ℕ) (c : Cell) (ps : List Placement) → ((a : Placement) → List·Memᴰ a ps → a .phase ≡ p → ⊥) → speedsPlaced p c ps ≡ []
 unfolding speedsPlaced
-no-speeds p c [] none = refl
-no-speeds p c (a ∷ ps) none = go (isThere p c a) refl (no-speeds p c ps (λ b m. none b (List·Memᴰ·tail m)))
-  where
-    go : (t : Bool) → isThere p c a ≡ t → speedsPlaced p c ps ≡ [] → cond t (rowOfSpeed (a .vx) (a .vy) ∷ speedsPlaced p c ps) (speedsPlaced p c ps) ≡ []
-    go true e k =
-        absurd (none a (List·Memᴰ·head refl) (eqb-true (a .phase) p (and-left (eqb (a .phase) p) _ e)))
-    go false e k = k
+no-speeds p c ps none =
+    ap (map ownRow) (passing-none (isThere p c) ps (λ a m. false-of (isThere p c a) (λ h. none a m (there-in p c a h))))
 
 -- each is the row of a placement's speeds
-pub speed-from : {r : Row} (p : ℕ) (c : Cell) (ps : List Placement) → List·Memᴰ r (speedsPlaced p c ps) → (a : Placement) × List·Memᴰ a ps × (r ≡ rowOfSpeed (a .vx) (a .vy))
+pub speed-from : {r : Row} (p : ℕ) (c : Cell) (ps : List Placement) → List·Memᴰ r (speedsPlaced p c ps) → (a : Placement) × List·Memᴰ a ps × (r ≡ ownRow a)
 unfolding speedsPlaced
-speed-from p c [] m = absurd (List·Memᴰ·not-nil m)
-speed-from {r} p c (a ∷ ps) m = go (isThere p c a) (speed-from p c ps) m
-  where
-    more : (b : Placement) × List·Memᴰ b ps × (r ≡ rowOfSpeed (b .vx) (b .vy)) → (b : Placement) × List·Memᴰ b (a ∷ ps) × (r ≡ rowOfSpeed (b .vx) (b .vy))
-    more t = (t .0, List·Memᴰ·tail (t .1), t .2)
-
-    first : r ≡ rowOfSpeed (a .vx) (a .vy) → (b : Placement) × List·Memᴰ b (a ∷ ps) × (r ≡ rowOfSpeed (b .vx) (b .vy))
-    first e = (a, List·Memᴰ·head refl, e)
-
-    go : (t : Bool) → (List·Memᴰ r (speedsPlaced p c ps) → (b : Placement) × List·Memᴰ b ps × (r ≡ rowOfSpeed (b .vx) (b .vy)))
-        → List·Memᴰ r (cond t (rowOfSpeed (a .vx) (a .vy) ∷ speedsPlaced p c ps) (speedsPlaced p c ps)) → (b : Placement) × List·Memᴰ b (a ∷ ps) × (r ≡ rowOfSpeed (b .vx) (b .vy))
-    go true f k = ⊎-elim first (λ n. more (f n)) (List·Memᴰ·cases-cons k)
-    go false f k = more (f k)
+speed-from p c ps m =
+    let from = map-in ownRow (passing (isThere p c) ps) m in
+    (from .0, passing-in (isThere p c) ps (from .1) .0, from .2)
 
 -- and the speeds of a placement there are among them
-pub speed-placed : {a : Placement} (ps : List Placement) → List·Memᴰ a ps → List·Memᴰ (rowOfSpeed (a .vx) (a .vy)) (speedsPlaced (a .phase) (a .cell) ps)
+pub speed-placed : {a : Placement} (ps : List Placement) → List·Memᴰ a ps → List·Memᴰ (ownRow a) (speedsPlaced (a .phase) (a .cell) ps)
 unfolding speedsPlaced
-speed-placed [] m = absurd (List·Memᴰ·not-nil m)
-speed-placed {a} (b ∷ ps) m = ⊎-elim first (λ k. rest (isThere (a .phase) (a .cell) b) (speed-placed ps k)) (List·Memᴰ·cases-cons m)
-  where
-    one : Row
-    one = rowOfSpeed (b .vx) (b .vy)
-
-    there : isThere (a .phase) (a .cell) a ≡ true
-    there =
-        and-true _ _ (eq-eqb (a .phase) (a .phase) refl)
-        (and-true _ _ (eq-eqb (a .cell .column) (a .cell .column) refl) (eq-eqb (a .cell .row) (a .cell .row) refl))
-
-    first : a ≡ b → List·Memᴰ (rowOfSpeed (a .vx) (a .vy)) (cond (isThere (a .phase) (a .cell) b) (one ∷ speedsPlaced (a .phase) (a .cell) ps) (speedsPlaced (a .phase) (a .cell) ps))
-    first same =
-        rw (sym (ap (isThere (a .phase) (a .cell)) same) ∙ there)
-        (List·Memᴰ·head (ap (λ (x : Placement). rowOfSpeed (x .vx) (x .vy)) same))
-
-    rest : (t : Bool) → List·Memᴰ (rowOfSpeed (a .vx) (a .vy)) (speedsPlaced (a .phase) (a .cell) ps)
-        → List·Memᴰ (rowOfSpeed (a .vx) (a .vy)) (cond t (one ∷ speedsPlaced (a .phase) (a .cell) ps) (speedsPlaced (a .phase) (a .cell) ps))
-    rest true k = List·Memᴰ·tail k
-    rest false k = k
+speed-placed {a} ps m =
+    map-has ownRow (passing (isThere (a .phase) (a .cell)) ps) (passing-has (isThere (a .phase) (a .cell)) ps m
+    (and-true _ _ (eq-eqb (a .phase) (a .phase) refl) (cell-same {a = a .cell} refl)))

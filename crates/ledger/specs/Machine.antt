@@ -8,13 +8,15 @@ use lib.Dec.{eqb, leb}
 use lib.IntN.{ℤ}
 use lib.ListN.{length}
 use Rattle.ints.specs.Whole.{eqZ, up}
-use Rattle.ints.specs.Lists.{passing}
+use Rattle.ints.specs.Lists.{passing, some}
+use Rattle.grid.specs.Places.{sameCell}
 use Rattle.grid.specs.Reports.{cellAtTime, isListed}
 use Rattle.grid.specs.declared.Cell.{Cell}
 use Rattle.grid.specs.declared.Query.{Query}
 use Rattle.grid.specs.declared.Report.{Report}
-use Rattle.rows.specs.Row.{rowOfSpeed, boundsOf}
+use Rattle.rows.specs.Row.{driftOf, rowOfDrift, boundsOf}
 use Rattle.rows.specs.Phases.{phaseOf, referenceTime, isLive, livePhases}
+use Rattle.rows.specs.declared.Drift.{Drift}
 use Rattle.rows.specs.declared.Row.{Row}
 use Rattle.methods.specs.Aims.{aimIn}
 use Rattle.methods.specs.Methods.{Rows, Choice, choice}
@@ -27,12 +29,11 @@ pub record Held : Type 0 where
   pub report : Report
   pub phase : ℕ
 
--- a speed placed in a cell of a phase
+-- vx and vy placed in a cell of a phase
 pub record Placement : Type 0 where
   pub phase : ℕ
   pub cell : Cell
-  pub vx : ℤ
-  pub vy : ℤ
+  pub drift : Drift
 
 pub record Ledger : Type 0 where
   pub now : ℤ
@@ -44,7 +45,7 @@ abbrev pub placeIn : ℕ → Report → Cell
 placeIn p r = cellAtTime r (referenceTime p)
 
 abbrev pub placement : ℕ → Report → Placement
-placement p r = record { phase = p; cell = placeIn p r; vx = r .vx; vy = r .vy }
+placement p r = record { phase = p; cell = placeIn p r; drift = driftOf r }
 
 -- open at t: that time, nothing held, no placements
 abbrev pub opened : ℤ → Ledger
@@ -83,9 +84,8 @@ stepped time l = record {
 
 -- ---- the changes after it
 
-unfoldable pub isHeld : ℤ → List Held → Bool
-isHeld id [] = false
-isHeld id (h ∷ hs) = eqZ (h .report .id) id || isHeld id hs
+abbrev pub isHeld : ℤ → List Held → Bool
+isHeld id = some (λ h. eqZ (h .report .id) id)
 
 unfoldable pub without : ℤ → List Held → List Held
 without id [] = []
@@ -114,12 +114,7 @@ changed (Change.Drop id t) l = withoutId id l
 
 -- the speeds placed in a cell of a phase, each as a row
 unfoldable pub speedsPlaced : ℕ → Cell → List Placement → List Row
-speedsPlaced p c [] = []
-speedsPlaced p c (a ∷ more) =
-    cond
-    (eqb (a .phase) p && (eqb (a .cell .column) (c .column) && eqb (a .cell .row) (c .row)))
-    (rowOfSpeed (a .vx) (a .vy) ∷ speedsPlaced p c more)
-    (speedsPlaced p c more)
+speedsPlaced p c ps = map (λ a. rowOfDrift (a .drift)) (passing (λ a. eqb (a .phase) p && sameCell (a .cell) c) ps)
 
 -- a row is the bounds of that phase and cell's placements, empty with none
 unfoldable pub rowsIn : Ledger → ℕ → Rows
@@ -130,16 +125,12 @@ abbrev pub choiceIn : Ledger → ℕ → Query → ℕ → Choice
 choiceIn l method query p = choice method (rowsIn l p) (aimIn p query)
 
 -- the held reports that a query lists
-unfoldable pub listedHeld : Query → List Held → List Held
-listedHeld query [] = []
-listedHeld query (h ∷ hs) = cond (isListed query (h .report)) (h ∷ listedHeld query hs) (listedHeld query hs)
+abbrev pub listedHeld : Query → List Held → List Held
+listedHeld query = passing (λ h. isListed query (h .report))
 
 -- whether a listed float is placed in a cell of a phase by its held report
-unfoldable pub isUseful : ℕ → Cell → List Held → Bool
-isUseful p c [] = false
-isUseful p c (h ∷ hs) =
-    let own = placeIn p (h .report) in
-    (eqb (h .phase) p && (eqb (own .column) (c .column) && eqb (own .row) (c .row))) || isUseful p c hs
+abbrev pub isUseful : ℕ → Cell → List Held → Bool
+isUseful p c = some (λ h. eqb (h .phase) p && sameCell (placeIn p (h .report)) c)
 
 -- the useful ones of some cells
 unfoldable pub usefulCells : ℕ → List Held → List Cell → ℕ

@@ -35,7 +35,7 @@ short d h k = omega (arith, signed, abs d, one-part d)
 module _ (rows : Rows) (aim : Aim) {inside : Placed → Bool} (sees : Sees aim inside) where
   pub own-reached : (f : Placed) → heldBy (rows (ownCell f)) f ≡ true → inside f ≡ true → isReached rows aim (ownCell f) ≡ true
   own-reached f h k =
-      rw (holds-not-empty (rows (ownCell f)) (f .vx) (f .vy) h) (sees .own-cell-meets f (rows (ownCell f)) h k)
+      rw (holds-not-empty (rows (ownCell f)) (f .drift) h) (sees .own-cell-meets f (rows (ownCell f)) h k)
 
   pub reaches-reached : {c : Cell} → OnGrid c → Reaches rows inside c → isReached rows aim c ≡ true
   reaches-reached {c} on r =
@@ -60,7 +60,7 @@ module _ (rows : Rows) (valid : ValidRows rows) (s : Slice) (is : IsSlice s) whe
           let x = meets-leads (c .column) _ _ (s .d) (s .rect .x) small (w .x .order) (o .x-ordered) (and-left mx my k) in
           let y = meets-leads (c .row) _ _ (s .d) (s .rect .y) small (w .y .order) (o .y-ordered) (and-right mx my k) in
           record {
-            float = record { x = x .x; y = y .x; vx = x .v; vy = y .v };
+            float = record { x = x .x; y = y .x; drift = record { vx = x .v; vy = y .v } };
             in-cell = and-true _ _ (x .in-span) (y .in-span);
             in-row = and-true _ _ (and-true _ _ (x .from-least) (x .to-greatest)) (and-true _ _ (y .from-least) (y .to-greatest));
             is-inside = and-true _ _ (x .in-range) (y .in-range);

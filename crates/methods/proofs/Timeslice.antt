@@ -80,10 +80,10 @@ module _ (s : Slice) (f : Placed) (w : Row) (h : heldBy w f ≡ true) (k : inSli
   unfolding inRect
   leads-x =
       let v = held-within h in
-      let y = positionAfter (f .y) (f .vy) (s .d) in
+      let y = positionAfter (f .y) (f .drift .vy) (s .d) in
       record {
         x = f .x;
-        v = f .vx;
+        v = f .drift .vx;
         in-span = and-left _ (inSpan (cellSpan (ownCell f .row)) (f .y)) (in-own-cell (f .x) (f .y));
         from-least = v .least-x;
         to-greatest = v .greatest-x;
@@ -94,10 +94,10 @@ module _ (s : Slice) (f : Placed) (w : Row) (h : heldBy w f ≡ true) (k : inSli
   unfolding inRect
   leads-y =
       let v = held-within h in
-      let x = positionAfter (f .x) (f .vx) (s .d) in
+      let x = positionAfter (f .x) (f .drift .vx) (s .d) in
       record {
         x = f .y;
-        v = f .vy;
+        v = f .drift .vy;
         in-span = and-right (inSpan (cellSpan (ownCell f .column)) (f .x)) _ (in-own-cell (f .x) (f .y));
         from-least = v .least-y;
         to-greatest = v .greatest-y;

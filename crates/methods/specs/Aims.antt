@@ -10,8 +10,9 @@ use Rattle.grid.specs.declared.Cell.{Cell}
 use Rattle.grid.specs.declared.Query.{Query}
 use Rattle.grid.specs.declared.Rect.{Rect}
 use Rattle.grid.specs.declared.Report.{Report}
-use Rattle.rows.specs.Row.{holds}
+use Rattle.rows.specs.Row.{driftOf, holds}
 use Rattle.rows.specs.Phases.{referenceTime, sinceReference}
+use Rattle.rows.specs.declared.Drift.{Drift}
 use Rattle.rows.specs.declared.Row.{Row}
 use Rattle.methods.specs.Reach.{expandedRect, movedCellMeets}
 use Rattle.methods.specs.declared.Slice.{Slice}
@@ -37,12 +38,11 @@ aimIn p query = sliceAim (sliceOf p query)
 pub record Placed : Type 0 where
   pub x : ℤ
   pub y : ℤ
-  pub vx : ℤ
-  pub vy : ℤ
+  pub drift : Drift
 
 -- placed in phase p by its report
 abbrev pub placedBy : ℕ → Report → Placed
-placedBy p r = record { x = xAt r (referenceTime p); y = yAt r (referenceTime p); vx = r .vx; vy = r .vy }
+placedBy p r = record { x = xAt r (referenceTime p); y = yAt r (referenceTime p); drift = driftOf r }
 
 -- the cell that it is placed in
 abbrev pub ownCell : Placed → Cell
@@ -50,8 +50,8 @@ ownCell f = cellOf (f .x) (f .y)
 
 -- whether its speeds lie in a row
 abbrev pub heldBy : Row → Placed → Bool
-heldBy row f = holds row (f .vx) (f .vy)
+heldBy row f = holds row (f .drift)
 
 -- whether it is in the rectangle d seconds later
 abbrev pub inSlice : Slice → Placed → Bool
-inSlice s f = inRect (s .rect) (positionAfter (f .x) (f .vx) (s .d)) (positionAfter (f .y) (f .vy) (s .d))
+inSlice s f = inRect (s .rect) (positionAfter (f .x) (f .drift .vx) (s .d)) (positionAfter (f .y) (f .drift .vy) (s .d))

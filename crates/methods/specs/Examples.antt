@@ -18,7 +18,7 @@ use Rattle.methods.specs.declared.Slice.{Slice}
 abbrev pub withFloat : Rows → ℤ → ℤ → ℤ → ℤ → Rows
 withFloat rows x y vx vy c =
     let own = cellOf x y in
-    cond (eqb (own .column) (c .column) && eqb (own .row) (c .row)) (widened (rows c) vx vy) (rows c)
+    cond (eqb (own .column) (c .column) && eqb (own .row) (c .row)) (widened (rows c) (record { vx = vx; vy = vy })) (rows c)
 
 -- the floats of P11, all reported at 0, the reference time of phase 0
 unfoldable pub rowsP11 : Rows

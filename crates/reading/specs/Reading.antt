@@ -9,6 +9,7 @@ use lib.Dec.{eqb}
 use lib.IntN.{ℤ, pos}
 use lib.ListN.{length, getD, set}
 use Rattle.ints.specs.Whole.{up, eqZ, between}
+use Rattle.ints.specs.Lists.{passing, some}
 use Rattle.grid.specs.Units.{cells, lastId}
 use Rattle.grid.specs.Small.{SmallQuery}
 use Rattle.grid.specs.declared.Query.{Query}
@@ -23,19 +24,16 @@ abbrev pub inSet : List ℕ → ℕ → Bool
 inSet marks number = not (eqb (getD marks number 0) 0)
 
 -- the records between two keys, both included
-unfoldable pub betweenKeys : ℤ → ℤ → List Record → List Record
-betweenKeys low high [] = []
-betweenKeys low high (r ∷ rs) = cond (between low high (r .key)) (r ∷ betweenKeys low high rs) (betweenKeys low high rs)
+abbrev pub betweenKeys : ℤ → ℤ → List Record → List Record
+betweenKeys low high = passing (λ r. between low high (r .key))
 
 -- whether reading a set of cells of a slot lists a record
 abbrev pub isRead : List ℕ → ℕ → (Report → Bool) → Record → Bool
 isRead marks slot inside r =
     (eqb (slotOfKey (r .key)) slot && inSet marks (numberOfKey (r .key))) && inside (r .report)
 
-unfoldable pub listedIn : List ℕ → ℕ → (Report → Bool) → List Record → List Record
-listedIn marks slot inside [] = []
-listedIn marks slot inside (r ∷ rs) =
-    cond (isRead marks slot inside r) (r ∷ listedIn marks slot inside rs) (listedIn marks slot inside rs)
+abbrev pub listedIn : List ℕ → ℕ → (Report → Bool) → List Record → List Record
+listedIn marks slot inside = passing (isRead marks slot inside)
 
 -- the cells of the set, from curve number `number` on, n of them
 unfoldable pub cellsIn : List ℕ → ℕ → ℕ → ℕ
@@ -43,9 +41,8 @@ cellsIn marks number zero = 0
 cellsIn marks number (suc n) = cond (inSet marks number) 1 0 + cellsIn marks (suc number) n
 
 -- whether a record has a key
-unfoldable pub hasKey : ℤ → List Record → Bool
-hasKey key [] = false
-hasKey key (r ∷ rs) = eqZ (r .key) key || hasKey key rs
+abbrev pub hasKey : ℤ → List Record → Bool
+hasKey key = some (λ r. eqZ (r .key) key)
 
 -- the useful ones among the n cells of a slot from `number` on: those with one of the listed records
 unfoldable pub usefulIn : ℕ → List Record → ℕ → ℕ → ℕ

@@ -12,18 +12,20 @@ use lib.IntN.{ℤ, pos}
 use lib.ListN.{length, getD, drop, take, replicate, length-drop, length-take, take-append-drop}
 use lib.Seq.{drop-cons, drop-drop, drop-at, drop-append-add}
 use borrow.Author.Tests.{eqb-true, eq-eqb}
+use Rattle.ints.specs.Lists.{every}
+use Rattle.ints.proofs.Members.{every-each, each-every}
 use Rattle.ints.specs.Whole.{eqZ, between}
 use Rattle.ints.proofs.Parts.{equal-parts}
 use Rattle.ints.proofs.Truth.{and-true, and-left, and-right}
 use Rattle.ints.proofs.Same.{same-is, is-same}
 use Rattle.grid.specs.Units.{capacity}
 use Rattle.grid.specs.Reports.{isTime, inRange}
-use Rattle.rows.specs.Row.{holds, validRow}
+use Rattle.rows.specs.Row.{validRow}
 use Rattle.rows.specs.Table.{tableWords, rowAt, validTable}
 use Rattle.rows.proofs.TableLaws.{valid-row-at}
 use Rattle.records.specs.Records.{recordWords, storeWords, nowOf, heldOf, readRecords, recordsOf, wordsOfAll, header, storeOf}
 use Rattle.records.specs.Order.{slotOfKey, numberOfKey, isSorted}
-use Rattle.records.specs.Soundness.{allZero, keyIsRight, isSoundRecord, allSound, idsDistinct, isSoundHeader, isSoundStore, speedsInRows, isSound, isRanged, allRanged, IsStore}
+use Rattle.records.specs.Soundness.{allZero, keyIsRight, isSoundRecord, allSound, idsDistinct, isSoundHeader, isSoundStore, inOwnRow, speedsInRows, isSound, isRanged, allRanged, IsStore}
 use Rattle.records.specs.declared.Record.{Record}
 use Rattle.records.proofs.RecordLaws.{words-length, now-of-store, records-of-store, store-length, held-records, written-read}
 use Rattle.records.proofs.SoundLawsRanges.{From, between-from, from-between, earlier-time, parts-ranged, slot-below, number-of-key-below}
@@ -32,7 +34,7 @@ use Rattle.records.proofs.SoundLawsKeys.{Placed, right-placed}
 -- ---- words that are zero
 
 pub zero-words : (w : List ℤ) → allZero w ≡ true → w ≡ replicate (length w) (pos 0)
-unfolding allZero
+unfolding every
 zero-words [] h = refl
 zero-words (a ∷ w) h =
     ap₂
@@ -41,7 +43,7 @@ zero-words (a ∷ w) h =
     (zero-words w (and-right (eqZ a (pos 0)) (allZero w) h))
 
 pub words-zero : (n : ℕ) → allZero (replicate n (pos 0)) ≡ true
-unfolding allZero
+unfolding every
 words-zero zero = refl
 words-zero (suc n) = and-true _ _ (is-same (pos 0) (pos 0) refl) (words-zero n)
 
@@ -81,37 +83,11 @@ sound-ranged now r time h =
 -- ---- every record of a list
 
 pub all-sound-each : (now : ℤ) (rs : List Record) → allSound now rs ≡ true → (r : Record) → List·Memᴰ r rs → SoundRecord now r
-unfolding allSound
-all-sound-each now [] h r m = absurd (List·Memᴰ·not-nil m)
-all-sound-each now (a ∷ rs) h r m =
-    ⊎-elim
-    (λ e. rw e (sound-record now a (and-left (isSoundRecord now a) (allSound now rs) h)))
-    (λ n. all-sound-each now rs (and-right (isSoundRecord now a) (allSound now rs) h) r n)
-    (List·Memᴰ·cases-cons m)
+all-sound-each now rs h r m = sound-record now r (every-each (isSoundRecord now) rs h m)
 
 pub all-sound-ranged : (now : ℤ) (rs : List Record) → isTime now ≡ true → allSound now rs ≡ true → allRanged rs ≡ true
-unfolding allSound allRanged
-all-sound-ranged now [] time h = refl
-all-sound-ranged now (a ∷ rs) time h =
-    and-true
-    _
-    _
-    (sound-ranged now a time (and-left (isSoundRecord now a) (allSound now rs) h))
-    (all-sound-ranged now rs time (and-right (isSoundRecord now a) (allSound now rs) h))
-
-pub speeds-each :
-    (t : List ℤ) (rs : List Record)
-    → speedsInRows t rs ≡ true
-    → (r : Record)
-    → List·Memᴰ r rs
-    → holds (rowAt t (slotOfKey (r .key)) (numberOfKey (r .key))) (r .report .vx) (r .report .vy) ≡ true
-unfolding speedsInRows
-speeds-each t [] h r m = absurd (List·Memᴰ·not-nil m)
-speeds-each t (a ∷ rs) h r m =
-    ⊎-elim
-    (λ e. rw e (and-left (holds (rowAt t (slotOfKey (a .key)) (numberOfKey (a .key))) (a .report .vx) (a .report .vy)) (speedsInRows t rs) h))
-    (λ n. speeds-each t rs (and-right (holds (rowAt t (slotOfKey (a .key)) (numberOfKey (a .key))) (a .report .vx) (a .report .vy)) (speedsInRows t rs) h) r n)
-    (List·Memᴰ·cases-cons m)
+all-sound-ranged now rs time h =
+    each-every isRanged rs (λ r m. sound-ranged now r time (every-each (isSoundRecord now) rs h m))
 
 -- ---- record 0
 
@@ -318,7 +294,7 @@ pub record HeldFloat (s t : List ℤ) (r : Record) : Type 0 where
   pub sound : SoundRecord (nowOf s) r
   pub ranged : isRanged r ≡ true
   pub row-valid : validRow (rowAt t (slotOfKey (r .key)) (numberOfKey (r .key))) ≡ true
-  pub row-holds : holds (rowAt t (slotOfKey (r .key)) (numberOfKey (r .key))) (r .report .vx) (r .report .vy) ≡ true
+  pub row-holds : inOwnRow t r ≡ true
 
 pub held-float : (s t : List ℤ) → Sound s t → (r : Record) → List·Memᴰ r (recordsOf s) → HeldFloat s t r
 held-float s t h r m =
@@ -328,5 +304,5 @@ held-float s t h r m =
       sound = sound;
       ranged = ranged;
       row-valid = valid-row-at t (h .valid) (slotOfKey (r .key)) (numberOfKey (r .key)) (slot-below r ranged) (number-of-key-below (r .key));
-      row-holds = speeds-each t (recordsOf s) (h .speeds) r m;
+      row-holds = every-each (inOwnRow t) (recordsOf s) (h .speeds) m;
     }

@@ -13,6 +13,7 @@ use lib.IntN.{ℤ}
 use lib.ListN.{length, getD, set, replicate}
 use lib.Seq.{getD-set-same, getD-set-other}
 use borrow.Author.Tests.{eq-eqb, ne-eqb}
+use Rattle.ints.specs.Lists.{some, every}
 use Rattle.ints.specs.Whole.{up, down, eqZ}
 use Rattle.ints.proofs.Parts.{equal-parts}
 use Rattle.ints.proofs.Truth.{and-left, and-right}
@@ -54,7 +55,7 @@ module _ (marks : List ℕ) (id : ℤ) (whole : down id ≡ 0) (fits : up id < l
   other-id a n = not-same a id (λ e. n (ap up e))
 
   pub one-more : (rs : List Record) → allRanged rs ≡ true → noneMarked (set marks (up id) 1) rs ≡ noneMarked marks rs && not (hasId id rs)
-  unfolding noneMarked hasId allRanged
+  unfolding noneMarked some every
   one-more [] h = refl
   one-more (r ∷ rs) h =
       let a = r .report .id in

@@ -17,7 +17,9 @@ use Rattle.grid.specs.Reports.{isTime, isId, isPosition, isSpeed, inRange}
 use Rattle.grid.specs.Small.{SmallReport}
 use Rattle.grid.specs.declared.Report.{Report}
 use Rattle.rows.specs.Phases.{phaseOf, referenceTime, slots}
+use Rattle.rows.specs.Row.{driftOf}
 use Rattle.rows.proofs.PhaseLaws.{phase-is}
+use Rattle.rows.proofs.RowLaws.{DriftInRange}
 use Rattle.records.specs.Order.{slotOfKey, numberOfKey}
 use Rattle.records.specs.Soundness.{isRanged}
 use Rattle.records.specs.declared.Record.{Record}
@@ -73,6 +75,11 @@ ranges r h =
       vx = and-left (isSpeed (r .vx)) (isSpeed (r .vy)) v;
       vy = and-right (isSpeed (r .vx)) (isSpeed (r .vy)) v;
     }
+
+pub drift-in-range : (r : Report) → inRange r ≡ true → DriftInRange (driftOf r)
+drift-in-range r h =
+    let a = ranges r h in
+    record { small-x = speed-size (r .vx) (a .vx); small-y = speed-size (r .vy) (a .vy) }
 
 -- ---- times and phases. 277,777 is the phase of the last time
 

@@ -11,6 +11,7 @@ use native.Mathlib.Omega.{arith}
 use lib.IntN.{ℤ, pos}
 use lib.ListN.{length, getD, drop, take, drop-of-length-le, length-drop}
 use lib.Seq.{drop-cons, drop-drop, take-all}
+use Rattle.ints.specs.Lists.{every}
 use Rattle.ints.specs.Whole.{eqZ}
 use Rattle.ints.proofs.Truth.{and-left, and-right}
 use Rattle.records.specs.Records.{recordWords, recordFrom, readRecords}
@@ -26,7 +27,7 @@ pub part-from : (k : ℕ) (s : List ℤ) → take (length s - k) (drop k s) ≡ 
 part-from k s = take-all (length s - k) (drop k s) (omega (arith, length-drop k s))
 
 zero-at : (w : List ℤ) (i : ℕ) → i < length w → allZero (drop i w) ≡ eqZ (getD w i (pos 0)) (pos 0) && allZero (drop (i + 1) w)
-unfolding allZero
+unfolding every
 zero-at w i h = rw (drop-cons w i (pos 0) h, add-one)
 
 module _ (w : List ℤ) (i : ℕ) (e : allZero w ≡ allZero (drop i w)) where
@@ -37,7 +38,7 @@ module _ (w : List ℤ) (i : ℕ) (e : allZero w ≡ allZero (drop i w)) where
   zero-so-far h t = e ∙ zero-at w i h ∙ simp t
 
   pub zero-to-the-end : length w ≤ i → true ≡ allZero w
-  unfolding allZero
+  unfolding every
   zero-to-the-end h = sym (e ∙ ap allZero (drop-of-length-le w h))
 
 -- ---- records
@@ -65,27 +66,27 @@ unfolding readRecords
 none-left n i w h = let e : n - i ≡ 0 = omega arith in ap (λ (m : ℕ). readRecords m (drop (recordWords * i) w)) e
 
 pub ranged-here : (n i : ℕ) (w : List ℤ) → i < n → allRanged (left n i w) ≡ true → (isRanged (recordFrom w (recordWords * i)) ≡ true) × (allRanged (left n (i + 1) w) ≡ true)
-unfolding allRanged
+unfolding every
 ranged-here n i w h e =
     let r = recordFrom w (recordWords * i) in
     let both : isRanged r && allRanged (left n (i + 1) w) ≡ true = sym (ap allRanged (left-at n i w h)) ∙ e in
     (and-left (isRanged r) (allRanged (left n (i + 1) w)) both, and-right (isRanged r) (allRanged (left n (i + 1) w)) both)
 
 -- a test of every record, in turn
-module _
-    (all : List Record → Bool) (one : Record → Bool) (none : all [] ≡ true) (more : (r : Record) (rs : List Record) → all (r ∷ rs) ≡ one r && all rs)
-    (n i : ℕ) (w : List ℤ) (e : all (readRecords n w) ≡ all (left n i w)) where
-  at-record : i < n → all (readRecords n w) ≡ one (recordFrom w (recordWords * i)) && all (left n (i + 1) w)
-  at-record h = e ∙ ap all (left-at n i w h) ∙ more (recordFrom w (recordWords * i)) (left n (i + 1) w)
+module _ (one : Record → Bool) (n i : ℕ) (w : List ℤ) (e : every one (readRecords n w) ≡ every one (left n i w)) where
+  at-record : i < n → every one (readRecords n w) ≡ one (recordFrom w (recordWords * i)) && every one (left n (i + 1) w)
+  unfolding every
+  at-record h = e ∙ ap (every one) (left-at n i w h)
 
-  pub failed-here : i < n → one (recordFrom w (recordWords * i)) ≡ false → false ≡ all (readRecords n w)
+  pub failed-here : i < n → one (recordFrom w (recordWords * i)) ≡ false → false ≡ every one (readRecords n w)
   failed-here h t = sym (at-record h ∙ simp t)
 
-  pub passed-here : i < n → one (recordFrom w (recordWords * i)) ≡ true → all (readRecords n w) ≡ all (left n (i + 1) w)
+  pub passed-here : i < n → one (recordFrom w (recordWords * i)) ≡ true → every one (readRecords n w) ≡ every one (left n (i + 1) w)
   passed-here h t = at-record h ∙ simp t
 
-  pub passed-all : n ≤ i → true ≡ all (readRecords n w)
-  passed-all h = sym (e ∙ ap all (none-left n i w h) ∙ none)
+  pub passed-all : n ≤ i → true ≡ every one (readRecords n w)
+  unfolding every
+  passed-all h = sym (e ∙ ap (every one) (none-left n i w h))
 
 -- ---- the order of records: the record at i and the one before it
 

@@ -1,12 +1,13 @@
 -- Keys, the live phase of a key, and the order of records: document 01, "Store and table".
 -- Assumes nothing.
-use mathlib.Core.Bool.{Bool, true, false, _&&_, _||_, cond}
+use mathlib.Core.Bool.{Bool, true, _&&_, _||_, cond}
 use mathlib.Core.List.{List, [], _∷_}
 use Prim.Native.Nat.{ℕ, _+_, _*_, _/_, _%_}
 use lib.Dec.{eqb}
 use lib.IntN.{ℤ, pos}
 use lib.Signed.{ltZ}
 use Rattle.ints.specs.Whole.{up, eqZ}
+use Rattle.ints.specs.Lists.{some}
 use Rattle.grid.specs.Units.{cells}
 use Rattle.grid.specs.Curve.{curveNumber}
 use Rattle.grid.specs.Reports.{cellAtTime}
@@ -47,6 +48,5 @@ isSorted [] = true
 isSorted (a ∷ rs) = precedesFirst a rs && isSorted rs
 
 -- whether a float is among some records
-unfoldable pub hasId : ℤ → List Record → Bool
-hasId id [] = false
-hasId id (a ∷ rs) = eqZ (a .report .id) id || hasId id rs
+abbrev pub hasId : ℤ → List Record → Bool
+hasId id = some (λ r. eqZ (r .report .id) id)

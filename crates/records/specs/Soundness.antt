@@ -8,9 +8,10 @@ use lib.Dec.{eqb, leb}
 use lib.IntN.{ℤ, pos}
 use lib.ListN.{length, getD, drop, take}
 use Rattle.ints.specs.Whole.{eqZ, between}
+use Rattle.ints.specs.Lists.{every}
 use Rattle.grid.specs.Units.{capacity}
 use Rattle.grid.specs.Reports.{isTime, inRange}
-use Rattle.rows.specs.Row.{holds}
+use Rattle.rows.specs.Row.{driftOf, holds}
 use Rattle.rows.specs.Phases.{phaseOf}
 use Rattle.rows.specs.Table.{tableWords, rowAt, validTable}
 use Rattle.records.specs.Records.{recordWords, storeWords, nowOf, heldOf, recordsOf, storeOf}
@@ -18,9 +19,8 @@ use Rattle.records.specs.Order.{keyIn, slotOfKey, numberOfKey, phaseOfKe
 use Rattle.records.specs.declared.Record.{Record}
 
 -- words named zero are zero
-unfoldable pub allZero : List ℤ → Bool
-allZero [] = true
-allZero (w ∷ ws) = eqZ w (pos 0) && allZero ws
+abbrev pub allZero : List ℤ → Bool
+allZero = every (λ w. eqZ w (pos 0))
 
 -- the key is right for a live phase not before that of t
 unfoldable pub keyIsRight : ℤ → Record → Bool
@@ -32,9 +32,8 @@ keyIsRight now r =
 unfoldable pub isSoundRecord : ℤ → Record → Bool
 isSoundRecord now r = (inRange (r .report) && between (pos 0) now (r .report .t)) && keyIsRight now r
 
-unfoldable pub allSound : ℤ → List Record → Bool
-allSound now [] = true
-allSound now (r ∷ rs) = isSoundRecord now r && allSound now rs
+abbrev pub allSound : ℤ → List Record → Bool
+allSound now = every (isSoundRecord now)
 
 -- ids distinct
 unfoldable pub idsDistinct : List Record → Bool
@@ -53,11 +52,13 @@ isSoundStore s =
     && ((allSound (nowOf s) (recordsOf s) && isSorted (recordsOf s))
     && (idsDistinct (recordsOf s) && allZero (drop (recordWords * (heldOf s + 1)) s)))
 
+-- whether the row of a record's cell holds its speeds
+abbrev pub inOwnRow : List ℤ → Record → Bool
+inOwnRow t r = holds (rowAt t (slotOfKey (r .key)) (numberOfKey (r .key))) (driftOf (r .report))
+
 -- each float's speeds in its row
-unfoldable pub speedsInRows : List ℤ → List Record → Bool
-speedsInRows t [] = true
-speedsInRows t (r ∷ rs) =
-    holds (rowAt t (slotOfKey (r .key)) (numberOfKey (r .key))) (r .report .vx) (r .report .vy) && speedsInRows t rs
+abbrev pub speedsInRows : List ℤ → List Record → Bool
+speedsInRows t = every (inOwnRow t)
 
 -- whether a store and a table are sound, whatever their lengths
 unfoldable pub isSound : List ℤ → List ℤ → Bool
@@ -69,9 +70,8 @@ isSound s t = isSoundStore s && ((eqb (length t) tableWords && validTable t) && 
 unfoldable pub isRanged : Record → Bool
 isRanged r = (inRange (r .report) && isTime (r .report .t)) && between (pos 0) (pos 3071) (r .key)
 
-unfoldable pub allRanged : List Record → Bool
-allRanged [] = true
-allRanged (r ∷ rs) = isRanged r && allRanged rs
+abbrev pub allRanged : List Record → Bool
+allRanged = every isRanged
 
 pub record IsStore (s : List ℤ) : Type 0 where
   pub words : s ≡ storeOf (nowOf s) (recordsOf s)

@@ -8,11 +8,11 @@ ghost use Rattle.ints.specs.Whole.{up, eqZ, between};
 ghost use Rattle.grid.specs.Curve.{IsCurve};
 ghost use Rattle.grid.specs.Reports.{isTime, isId, isPosition, isSpeed, inRange};
 ghost use Rattle.rows.specs.Phases.{phaseOf, livePhases};
-ghost use Rattle.rows.specs.Row.{holds};
-ghost use Rattle.rows.specs.Table.{tableWords, rowAt};
+ghost use Rattle.rows.specs.Row.{driftOf};
+ghost use Rattle.rows.specs.Table.{tableWords};
 ghost use Rattle.records.specs.Records.{recordWords, storeWords, nowOf, heldOf, readRecords, recordsOf};
 ghost use Rattle.records.specs.Order.{keyIn, slotOfKey, numberOfKey, phaseWithSlot, phaseOfKey, precedes, isSorted};
-ghost use Rattle.records.specs.Soundness.{allZero, keyIsRight, isSoundRecord, allSound, idsDistinct, isSoundHeader, isSoundStore, speedsInRows, isSound, isRanged, allRanged};
+ghost use Rattle.records.specs.Soundness.{allZero, keyIsRight, isSoundRecord, allSound, idsDistinct, isSoundHeader, isSoundStore, inOwnRow, speedsInRows, isSound, isRanged, allRanged};
 use crate::CAPACITY;
 use crate::RECORD_WORDS;
 use crate::Record;
@@ -22,6 +22,7 @@ use grid::LAST_ID;
 use grid::LAST_POSITION;
 use grid::LAST_TIME;
 use grid::Report;
+use rows::Drift;
 use rows::Row;
 
 // The least and the greatest speed along an axis, in centimetres per second: a row's limit.
@@ -238,20 +239,31 @@ fn ids_distinct(words: &[i32], n: usize) -> bool
 }
 
 // A speed in 16 bits.
-pub fn narrow(v: i32) -> i16
+fn narrow(v: i32) -> i16
     requires { ⌜ isSpeed v ≡ true ⌝ }
     ensures { λ r. ⌜ r ≡ v ⌝ }
 {
     v as i16
 }
 
+// What a row takes in of a report.
+pub fn drift_of(r: Report) -> Drift
+    requires { ⌜ inRange r ≡ true ⌝ }
+    ensures { λ v. ⌜ v ≡ driftOf r ⌝ }
+{
+    Drift {
+        vx: narrow(r.vx),
+        vy: narrow(r.vy),
+    }
+}
+
 // Whether the row of a record's cell holds its speeds.
 fn is_in_row(table: &[i16], r: Record) -> bool
     requires { ⌜ (length (now table) ≡ tableWords) × (isRanged r ≡ true) ⌝ }
-    ensures { λ b. ⌜ b ≡ holds (rowAt (now (table .entry)) (slotOfKey (r .key)) (numberOfKey (r .key))) (r .report .vx) (r .report .vy) ⌝ }
+    ensures { λ b. ⌜ b ≡ inOwnRow (now (table .entry)) r ⌝ }
 {
     let row = Row::read(table, slot_of_key(r.key), number_of_key(r.key));
-    row.holds(narrow(r.report.vx), narrow(r.report.vy))
+    row.holds(drift_of(r.report))
 }
 
 // Whether the row of each of the first n records holds its speeds, in one pass.

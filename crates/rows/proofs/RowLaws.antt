@@ -13,7 +13,9 @@ use Rattle.ints.specs.Whole.{minZ, maxZ, eqZ, between}
 use Rattle.ints.proofs.Parts.{signed, abs, one-part, true-false}
 use Rattle.ints.proofs.Least.{min-comm, max-comm, min-assoc, max-assoc, min-same, max-same, min-below, max-above, min-greatest, max-least, le-refl, le-trans}
 use Rattle.ints.proofs.Truth.{and-true, and-left, and-right}
-use Rattle.rows.specs.Row.{emptyRow, rowOfSpeed, joined, widened, holds, sameRow, isEmpty, validAxis, validRow, boundsOf}
+use Rattle.grid.specs.Units.{speedLimit}
+use Rattle.rows.specs.Row.{emptyRow, rowOfDrift, joined, widened, holds, sameRow, isEmpty, validAxis, validRow, boundsOf}
+use Rattle.rows.specs.declared.Drift.{Drift}
 use Rattle.rows.specs.declared.Row.{Row}
 
 -- rows with the same four numbers are the same
@@ -98,42 +100,42 @@ joined-within {a} {b} {c} h k =
 pub joined-absorbs : {a b : Row} → Within a b → joined a b ≡ b
 joined-absorbs {a} {b} h = within-antisym (joined-within h (within-refl b)) (within-joined-right a b)
 
--- ---- holding a speed
+-- ---- holding a drift
 
 between-wider : (l g l′ g′ v : ℤ) → leZ l′ l ≡ true → leZ g g′ ≡ true → between l g v ≡ true → between l′ g′ v ≡ true
 between-wider l g l′ g′ v h k b =
     and-true _ _ (le-trans l′ l v h (and-left _ (leZ v g) b)) (le-trans v g g′ (and-right (leZ l v) _ b) k)
 
-pub holds-within : {a b : Row} → Within a b → (vx vy : ℤ) → holds a vx vy ≡ true → holds b vx vy ≡ true
+pub holds-within : {a b : Row} → Within a b → (v : Drift) → holds a v ≡ true → holds b v ≡ true
 unfolding holds
-holds-within {a} {b} w vx vy h =
+holds-within {a} {b} w v h =
     and-true _ _
-    (between-wider (a .«least_vx») (a .«greatest_vx») (b .«least_vx») (b .«greatest_vx») vx (w .least-x) (w .greatest-x) (and-left _ (between (a .«least_vy») (a .«greatest_vy») vy) h))
-    (between-wider (a .«least_vy») (a .«greatest_vy») (b .«least_vy») (b .«greatest_vy») vy (w .least-y) (w .greatest-y) (and-right (between (a .«least_vx») (a .«greatest_vx») vx) _ h))
+    (between-wider (a .«least_vx») (a .«greatest_vx») (b .«least_vx») (b .«greatest_vx») (v .vx) (w .least-x) (w .greatest-x) (and-left _ (between (a .«least_vy») (a .«greatest_vy») (v .vy)) h))
+    (between-wider (a .«least_vy») (a .«greatest_vy») (b .«least_vy») (b .«greatest_vy») (v .vy) (w .least-y) (w .greatest-y) (and-right (between (a .«least_vx») (a .«greatest_vx») (v .vx)) _ h))
 
-pub holds-one : (vx vy : ℤ) → holds (rowOfSpeed vx vy) vx vy ≡ true
+pub holds-one : (v : Drift) → holds (rowOfDrift v) v ≡ true
 unfolding holds
-holds-one vx vy =
-    and-true _ _ (and-true _ _ (le-refl vx) (le-refl vx)) (and-true _ _ (le-refl vy) (le-refl vy))
+holds-one v =
+    and-true _ _ (and-true _ _ (le-refl (v .vx)) (le-refl (v .vx))) (and-true _ _ (le-refl (v .vy)) (le-refl (v .vy)))
 
--- the row of a speed is within every row that holds the speed
-pub held-within : {r : Row} {vx vy : ℤ} → holds r vx vy ≡ true → Within (rowOfSpeed vx vy) r
+-- the row of a drift is within every row that holds the drift
+pub held-within : {r : Row} {v : Drift} → holds r v ≡ true → Within (rowOfDrift v) r
 unfolding holds
-held-within {r} {vx} {vy} h =
-    let x = and-left _ (between (r .«least_vy») (r .«greatest_vy») vy) h in
-    let y = and-right (between (r .«least_vx») (r .«greatest_vx») vx) _ h in
+held-within {r} {v} h =
+    let x = and-left _ (between (r .«least_vy») (r .«greatest_vy») (v .vy)) h in
+    let y = and-right (between (r .«least_vx») (r .«greatest_vx») (v .vx)) _ h in
     record {
-      least-x = and-left _ (leZ vx (r .«greatest_vx»)) x;
-      greatest-x = and-right (leZ (r .«least_vx») vx) _ x;
-      least-y = and-left _ (leZ vy (r .«greatest_vy»)) y;
-      greatest-y = and-right (leZ (r .«least_vy») vy) _ y;
+      least-x = and-left _ (leZ (v .vx) (r .«greatest_vx»)) x;
+      greatest-x = and-right (leZ (r .«least_vx») (v .vx)) _ x;
+      least-y = and-left _ (leZ (v .vy) (r .«greatest_vy»)) y;
+      greatest-y = and-right (leZ (r .«least_vy») (v .vy)) _ y;
     }
 
-pub widened-keeps : (r : Row) (ux uy vx vy : ℤ) → holds r vx vy ≡ true → holds (widened r ux uy) vx vy ≡ true
-widened-keeps r ux uy vx vy h = holds-within (within-joined-left r (rowOfSpeed ux uy)) vx vy h
+pub widened-keeps : (r : Row) (u v : Drift) → holds r v ≡ true → holds (widened r u) v ≡ true
+widened-keeps r u v h = holds-within (within-joined-left r (rowOfDrift u)) v h
 
-pub widened-holds : (r : Row) (vx vy : ℤ) → holds (widened r vx vy) vx vy ≡ true
-widened-holds r vx vy = holds-within (within-joined-right r (rowOfSpeed vx vy)) vx vy (holds-one vx vy)
+pub widened-holds : (r : Row) (v : Drift) → holds (widened r v) v ≡ true
+widened-holds r v = holds-within (within-joined-right r (rowOfDrift v)) v (holds-one v)
 
 -- ---- the same row, and the empty one
 
@@ -258,15 +260,15 @@ joined-empty-right r v = joined-comm r emptyRow ∙ joined-empty-left r v
 pub within-empty : (r : Row) → validRow r ≡ true → Within r emptyRow → r ≡ emptyRow
 within-empty r v h = within-antisym h (valid-within r v)
 
-pub holds-not-empty : (r : Row) (vx vy : ℤ) → holds r vx vy ≡ true → isEmpty r ≡ false
-holds-not-empty r vx vy h = go (isEmpty r) refl
+pub holds-not-empty : (r : Row) (v : Drift) → holds r v ≡ true → isEmpty r ≡ false
+holds-not-empty r v h = go (isEmpty r) refl
   where
-    w : Within (rowOfSpeed vx vy) r
+    w : Within (rowOfDrift v) r
     w = held-within h
 
     go : (t : Bool) → isEmpty r ≡ t → t ≡ false
     go true e =
-        absurd (true-false (sym (simp (empty-is r e) at (le-trans (r .«least_vx») vx (r .«greatest_vx») (w .least-x) (w .greatest-x)))))
+        absurd (true-false (sym (simp (empty-is r e) at (le-trans (r .«least_vx») (v .vx) (r .«greatest_vx») (w .least-x) (w .greatest-x)))))
     go false e = refl
 
 -- ---- joining and widening keep rows valid
@@ -301,15 +303,20 @@ axis-of-speed : (v : ℤ) → natAbs v ≤ 500 → RangedAxis v v
 axis-of-speed v h =
     ranged-axis v v (omega (arith, signed, abs v)) (le-refl v) (omega (arith, signed, abs v))
 
-pub speed-ranged : (vx vy : ℤ) → natAbs vx ≤ 500 → natAbs vy ≤ 500 → Ranged (rowOfSpeed vx vy)
-speed-ranged vx vy h k = record { x = axis-of-speed vx h; y = axis-of-speed vy k }
+-- a drift that a float may have
+pub record DriftInRange (v : Drift) : Type 0 where
+  pub small-x : natAbs (v .vx) ≤ speedLimit
+  pub small-y : natAbs (v .vy) ≤ speedLimit
 
-pub widened-ranged : (r : Row) (vx vy : ℤ) → validRow r ≡ true → natAbs vx ≤ 500 → natAbs vy ≤ 500 → Ranged (widened r vx vy)
-widened-ranged r vx vy v h k = joined-ranged-right r v (speed-ranged vx vy h k)
+pub drift-ranged : (v : Drift) → DriftInRange v → Ranged (rowOfDrift v)
+drift-ranged v h = record { x = axis-of-speed (v .vx) (h .small-x); y = axis-of-speed (v .vy) (h .small-y) }
 
-pub widened-valid : (r : Row) (vx vy : ℤ) → validRow r ≡ true → natAbs vx ≤ 500 → natAbs vy ≤ 500 → (validRow (widened r vx vy) ≡ true) × (isEmpty (widened r vx vy) ≡ false)
-widened-valid r vx vy v h k =
-    let w = widened-ranged r vx vy v h k in
+pub widened-ranged : (r : Row) (v : Drift) → validRow r ≡ true → DriftInRange v → Ranged (widened r v)
+widened-ranged r v valid h = joined-ranged-right r valid (drift-ranged v h)
+
+pub widened-valid : (r : Row) (v : Drift) → validRow r ≡ true → DriftInRange v → (validRow (widened r v) ≡ true) × (isEmpty (widened r v) ≡ false)
+widened-valid r v valid h =
+    let w = widened-ranged r v valid h in
     (ranged-valid w, ranged-not-empty w)
 
 -- ---- bounds

@@ -8,6 +8,8 @@ use lib.IntN.{ℤ, pos, negsuc, negℤ}
 use lib.Signed.{leZ}
 use Rattle.ints.specs.Whole.{minZ, maxZ, between, eqZ}
 use Rattle.grid.specs.Units.{speedLimit}
+use Rattle.grid.specs.declared.Report.{Report}
+use Rattle.rows.specs.declared.Drift.{Drift}
 use Rattle.rows.specs.declared.Row.{Row}
 
 -- an empty row: 501, -501, 501, -501
@@ -19,9 +21,13 @@ emptyRow = record {
   «greatest_vy» = negsuc speedLimit;
 }
 
--- the row of one speed
-abbrev pub rowOfSpeed : ℤ → ℤ → Row
-rowOfSpeed vx vy = record { «least_vx» = vx; «greatest_vx» = vx; «least_vy» = vy; «greatest_vy» = vy }
+-- what a row takes in of a report
+abbrev pub driftOf : Report → Drift
+driftOf r = record { vx = r .vx; vy = r .vy }
+
+-- the row of one drift
+abbrev pub rowOfDrift : Drift → Row
+rowOfDrift v = record { «least_vx» = v .vx; «greatest_vx» = v .vx; «least_vy» = v .vy; «greatest_vy» = v .vy }
 
 -- the smallest row that holds what either holds
 unfoldable pub joined : Row → Row → Row
@@ -32,13 +38,13 @@ joined a b = record {
   «greatest_vy» = maxZ (a .«greatest_vy») (b .«greatest_vy»);
 }
 
--- a row widened to take in a speed
-abbrev pub widened : Row → ℤ → ℤ → Row
-widened r vx vy = joined r (rowOfSpeed vx vy)
+-- a row widened to take in a drift
+abbrev pub widened : Row → Drift → Row
+widened r v = joined r (rowOfDrift v)
 
--- whether a speed lies in a row
-unfoldable pub holds : Row → ℤ → ℤ → Bool
-holds r vx vy = between (r .«least_vx») (r .«greatest_vx») vx && between (r .«least_vy») (r .«greatest_vy») vy
+-- whether a drift lies in a row
+unfoldable pub holds : Row → Drift → Bool
+holds r v = between (r .«least_vx») (r .«greatest_vx») (v .vx) && between (r .«least_vy») (r .«greatest_vy») (v .vy)
 
 unfoldable pub sameRow : Row → Row → Bool
 sameRow a b =

@@ -10,6 +10,7 @@ use lib.ListN.{getD, set, take, drop}
 use Rattle.grid.specs.Units.{cells}
 use Rattle.rows.specs.Row.{emptyRow, widened, validRow}
 use Rattle.rows.specs.Phases.{slotOf, livePhases}
+use Rattle.rows.specs.declared.Drift.{Drift}
 use Rattle.rows.specs.declared.Row.{Row}
 
 -- the numbers of a row, of a slot's third, and of the table
@@ -48,9 +49,9 @@ withRow t slot number r =
     (k + 3)
     (r .«greatest_vy»)
 
--- the table with that row widened by a speed
-abbrev pub withSpeed : List ℤ → ℕ → ℕ → ℤ → ℤ → List ℤ
-withSpeed t slot number vx vy = withRow t slot number (widened (rowAt t slot number) vx vy)
+-- the table with that row widened by a drift
+abbrev pub withDrift : List ℤ → ℕ → ℕ → Drift → List ℤ
+withDrift t slot number v = withRow t slot number (widened (rowAt t slot number) v)
 
 -- so many empty rows, as words
 unfoldable pub emptyRows : ℕ → List ℤ

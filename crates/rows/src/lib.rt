@@ -8,7 +8,7 @@ ghost use Rattle.ints.specs.Whole.{minZ, maxZ, eqZ, between};
 ghost use Rattle.grid.specs.Units.{cells};
 ghost use Rattle.rows.specs.Row.{emptyRow, joined, widened, holds, sameRow, isEmpty, validAxis, validRow, boundsOf};
 ghost use Rattle.rows.specs.Phases.{phaseOf, referenceTime, isLive, slotOf, slots};
-ghost use Rattle.rows.specs.Table.{slotWords, tableWords, rowAt, rowFrom, withRow, withSpeed, emptyRows, withSlotEmpty, withNewlyLiveEmpty, slotRows, validTable};
+ghost use Rattle.rows.specs.Table.{slotWords, tableWords, rowAt, rowFrom, withRow, withDrift, emptyRows, withSlotEmpty, withNewlyLiveEmpty, slotRows, validTable};
 
 // The length of a phase, in seconds.
 pub const PHASE_SECONDS: usize = 3600;
@@ -52,6 +52,12 @@ pub fn slot_of(p: usize) -> usize
     ensures { λ r. ⌜ r ≡ slotOf p ⌝ }
 {
     p % SLOTS
+}
+
+// What a row takes in of a float's report: how it drifts.
+pub struct Drift {
+    pub vx: i16,
+    pub vy: i16,
 }
 
 // The least and the greatest of each speed seen in a cell of a phase.
@@ -117,22 +123,22 @@ impl Row {
         }
     }
 
-    pub fn widen(self, vx: i16, vy: i16) -> Row
-        ensures { λ r. ⌜ r ≡ widened self vx vy ⌝ }
+    pub fn widen(self, drift: Drift) -> Row
+        ensures { λ r. ⌜ r ≡ widened self drift ⌝ }
     {
         Row {
-            least_vx: least(self.least_vx, vx),
-            greatest_vx: greatest(self.greatest_vx, vx),
-            least_vy: least(self.least_vy, vy),
-            greatest_vy: greatest(self.greatest_vy, vy),
+            least_vx: least(self.least_vx, drift.vx),
+            greatest_vx: greatest(self.greatest_vx, drift.vx),
+            least_vy: least(self.least_vy, drift.vy),
+            greatest_vy: greatest(self.greatest_vy, drift.vy),
         }
     }
 
-    pub fn holds(self, vx: i16, vy: i16) -> bool
-        ensures { λ r. ⌜ r ≡ holds self vx vy ⌝ }
+    pub fn holds(self, drift: Drift) -> bool
+        ensures { λ r. ⌜ r ≡ holds self drift ⌝ }
     {
-        is_between(self.least_vx, self.greatest_vx, vx)
-            && is_between(self.least_vy, self.greatest_vy, vy)
+        is_between(self.least_vx, self.greatest_vx, drift.vx)
+            && is_between(self.least_vy, self.greatest_vy, drift.vy)
     }
 
     pub fn same(self, other: Row) -> bool
@@ -203,26 +209,26 @@ impl Row {
 }
 
 // A row widened where it stands.
-fn widen_in(row: &mut Row, vx: i16, vy: i16)
-    ensures { λ u. ⌜ now (row .exit) ≡ widened (now (row .entry)) vx vy ⌝ }
+fn widen_in(row: &mut Row, drift: Drift)
+    ensures { λ u. ⌜ now (row .exit) ≡ widened (now (row .entry)) drift ⌝ }
 {
-    *row = Row::widen(*row, vx, vy);
+    *row = Row::widen(*row, drift);
 }
 
 // A copy of a row, widened. Its contract speaks of values alone, so whoever calls it needs no proof about a reference to a row.
-fn widen_copy(mut row: Row, vx: i16, vy: i16) -> Row
-    ensures { λ r. ⌜ r ≡ widened row vx vy ⌝ }
+fn widen_copy(mut row: Row, drift: Drift) -> Row
+    ensures { λ r. ⌜ r ≡ widened row drift ⌝ }
 {
-    widen_in(&mut row, vx, vy);
+    widen_in(&mut row, drift);
     row
 }
 
-// The row of a slot and a curve number widened by a speed.
-pub fn widen_row(table: &mut [i16], slot: usize, number: usize, vx: i16, vy: i16)
+// The row of a slot and a curve number widened by a drift.
+pub fn widen_row(table: &mut [i16], slot: usize, number: usize, drift: Drift)
     requires { ⌜ (length (now table) ≡ tableWords) × (slot < slots) × (number < cells) ⌝ }
-    ensures { λ u. ⌜ now (table .exit) ≡ withSpeed (now (table .entry)) slot number vx vy ⌝ }
+    ensures { λ u. ⌜ now (table .exit) ≡ withDrift (now (table .entry)) slot number drift ⌝ }
 {
-    let row = widen_copy(Row::read(table, slot, number), vx, vy);
+    let row = widen_copy(Row::read(table, slot, number), drift);
     row.write(table, slot, number);
 }
 

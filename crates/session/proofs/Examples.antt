@@ -2,7 +2,7 @@
 -- Assumes nothing.
 use mathlib.Core.Path.{_≡_, refl}
 use mathlib.Core.List.{_++_}
-use Rattle.ints.specs.Lists.{passing}
+use Rattle.ints.specs.Lists.{passing, some}
 use Rattle.ints.specs.Whole.{minZ, maxZ, eqZ}
 use Rattle.grid.specs.Places.{columnOf, cellSpan}
 use Rattle.grid.specs.Curve.{numberAt}
@@ -12,8 +12,8 @@ use Rattle.rows.specs.Phases.{phaseOf, referenceTime, isLive, livePhases}
 use Rattle.methods.specs.Reach.{expandedRange, expandedRect, blockOf, cellsOfRow, cellsOfRows, cellsOf, movedSpan, meets, movedCellMeets}
 use Rattle.methods.specs.Methods.{boundsIn, expandedBlock, iterated, reached, choice}
 use Rattle.ledger.specs.Refusals.{firstToFail, isRectangle}
-use Rattle.ledger.specs.Machine.{steppedHeld, newPlacements, livePlacements, stepped, isHeld, without, withReport, withoutId}
-use Rattle.ledger.specs.Machine.{speedsPlaced, rowsIn, listedHeld, isUseful, usefulCells, putInOrder, idsInOrder, summed}
+use Rattle.ledger.specs.Machine.{steppedHeld, newPlacements, livePlacements, stepped, without, withReport, withoutId}
+use Rattle.ledger.specs.Machine.{speedsPlaced, rowsIn, usefulCells, putInOrder, idsInOrder, summed}
 use Rattle.ledger.specs.Calls as L
 use Rattle.lines.specs.Lines.{digits, written, fieldOf, fields, letterOf, changeNumbers, numbersOf, noCallLine}
 use Rattle.lines.specs.Reading.{withDigit, after, numberOf, seenAt, numbersIn, areNumbers, callOf, countOf, readLine}
@@ -23,16 +23,16 @@ use Rattle.session.specs.Examples.{ended, listing, listingSays, damaged,
 
 pub listing-is-replayed : replayed (ended listing) ≡ ended listingSays
 unfolding listing listingSays replayed answered linesFrom answerTo next ended bytes readLine countOf numbersOf changeNumbers callOf numbersIn areNumbers seenAt numberOf
-    after withDigit noCallLine letterOf fields fieldOf written digits columnOf cellSpan numberAt minZ maxZ eqZ passing joined sameRow isEmpty boundsOf expandedRange expandedRect
+    after withDigit noCallLine letterOf fields fieldOf written digits columnOf cellSpan numberAt minZ maxZ eqZ passing some joined sameRow isEmpty boundsOf expandedRange expandedRect
     blockOf cellsOfRow cellsOfRows cellsOf movedSpan meets movedCellMeets boundsIn expandedBlock iterated reached choice inRange xAt yAt inRect isListed phaseOf
-    referenceTime isLive livePhases firstToFail isRectangle steppedHeld newPlacements livePlacements stepped isHeld without withReport withoutId speedsPlaced rowsIn
-    listedHeld isUseful usefulCells putInOrder idsInOrder summed L.answerTo L.changedBy L.idsOf L.next L.replyTo
+    referenceTime isLive livePhases firstToFail isRectangle steppedHeld newPlacements livePlacements stepped without withReport withoutId speedsPlaced rowsIn
+    usefulCells putInOrder idsInOrder summed L.answerTo L.changedBy L.idsOf L.next L.replyTo
 listing-is-replayed = refl
 
 pub damaged-is-replayed : replayed (ended damaged ++ bytes lastLine) ≡ ended damagedSays
 unfolding damaged damagedSays replayed answered linesFrom answerTo next ended bytes readLine countOf numbersOf changeNumbers callOf numbersIn areNumbers seenAt numberOf
-    after withDigit noCallLine letterOf fields fieldOf written digits columnOf cellSpan numberAt minZ maxZ eqZ passing joined sameRow isEmpty boundsOf expandedRange expandedRect
+    after withDigit noCallLine letterOf fields fieldOf written digits columnOf cellSpan numberAt minZ maxZ eqZ passing some joined sameRow isEmpty boundsOf expandedRange expandedRect
     blockOf cellsOfRow cellsOfRows cellsOf movedSpan meets movedCellMeets boundsIn expandedBlock iterated reached choice inRange xAt yAt inRect isListed phaseOf
-    referenceTime isLive livePhases firstToFail isRectangle steppedHeld newPlacements livePlacements stepped isHeld without withReport withoutId speedsPlaced rowsIn
-    listedHeld isUseful usefulCells putInOrder idsInOrder summed L.answerTo L.changedBy L.idsOf L.next L.replyTo
+    referenceTime isLive livePhases firstToFail isRectangle steppedHeld newPlacements livePlacements stepped without withReport withoutId speedsPlaced rowsIn
+    usefulCells putInOrder idsInOrder summed L.answerTo L.changedBy L.idsOf L.next L.replyTo
 damaged-is-replayed = refl

@@ -15,6 +15,7 @@ use native.Mathlib.Numerals.{add-one, towards-suc}
 use borrow.Author.Tests.{lt-ltb, le-ltb, ltb-true, ltb-false}
 use mir.Syntax.{w32}
 use mir.Val.{hbits}
+use Rattle.ints.specs.Lists.{some}
 use Rattle.ints.specs.Whole.{eqZ}
 use Rattle.ints.proofs.Machine.{back, held}
 use Rattle.ints.proofs.Lists.{movedUp, movedDown, up-more, up-end, down-more, down-end}
@@ -159,7 +160,7 @@ ltb-suc a b = go (ltb a b) refl
     go false e = le-ltb (suc a) (suc b) (omega (arith, ltb-false a b e)) ∙ sym e
 
 pub has-found : (id : ℤ) (rs : List Record) → ltb (indexOf id rs) (length rs) ≡ hasId id rs
-unfolding firstOf hasId
+unfolding firstOf some
 has-found id [] = refl
 has-found id (a ∷ rs) = go (eqZ (a .report .id) id) (has-found id rs)
   where

@@ -9,7 +9,7 @@ use native.Mathlib.Omega.{arith}
 use lib.IntN.{ℤ}
 use lib.ListN.{length, length-map}
 use Rattle.ints.specs.Whole.{eqZ}
-use Rattle.ints.specs.Lists.{passing}
+use Rattle.ints.specs.Lists.{passing, some, every}
 use Rattle.ints.proofs.Parts.{true-false}
 use Rattle.ints.proofs.Truth.{and-true, and-left, and-right, or-swap}
 use Rattle.ints.proofs.Same.{same-comm}
@@ -84,7 +84,7 @@ sorted-cons a (b ∷ rs) f h = and-true (precedes a b) (isSorted (b ∷ rs)) (f 
 
 -- a record that differs by id from each of some records
 pub no-id : (id : ℤ) (rs : List Record) → hasId id rs ≡ false → (x : Record) → Member x rs → eqZ (x .report .id) id ≡ false
-unfolding hasId
+unfolding some
 no-id id [] h x m = absurd m
 no-id id (a ∷ rs) h x m = go (eqZ (a .report .id) id) refl h (no-id id rs)
   where
@@ -105,7 +105,7 @@ inserted-sorted r (a ∷ rs) h n = go (precedes r a) refl (inserted-sorted r rs 
     go false e i = sorted-cons a (inserted r rs) (λ x m. ⊎-elim (λ q. rw q (after e)) (λ k. sorted-all a rs h x k) (in-inserted x r rs m)) i
 
 pub inserted-ranged : (r : Record) (rs : List Record) → isRanged r ≡ true → allRanged rs ≡ true → allRanged (inserted r rs) ≡ true
-unfolding inserted allRanged
+unfolding inserted every
 inserted-ranged r [] h k = and-true (isRanged r) true h refl
 inserted-ranged r (a ∷ rs) h k = go (precedes r a) (inserted-ranged r rs h (and-right (isRanged a) (allRanged rs) k))
   where
@@ -125,7 +125,7 @@ removed-sorted id (a ∷ rs) h = go (eqZ (a .report .id) id) (removed-sorted id 
     go false i = sorted-cons a (removed id rs) (λ x m. sorted-all a rs h x (in-removed x id rs m)) i
 
 pub removed-ranged : (id : ℤ) (rs : List Record) → allRanged rs ≡ true → allRanged (removed id rs) ≡ true
-unfolding removed allRanged
+unfolding removed every
 removed-ranged id [] h = h
 removed-ranged id (a ∷ rs) h = go (eqZ (a .report .id) id) (removed-ranged id rs (and-right (isRanged a) (allRanged rs) h))
   where
@@ -134,7 +134,7 @@ removed-ranged id (a ∷ rs) h = go (eqZ (a .report .id) id) (removed-ranged id 
     go false i = and-true (isRanged a) (allRanged (removed id rs)) (and-left (isRanged a) (allRanged rs) h) i
 
 pub removed-length : (id : ℤ) (rs : List Record) → hasId id rs ≡ true → suc (length (removed id rs)) ≡ length rs
-unfolding removed hasId
+unfolding removed some
 removed-length id [] h = absurd (true-false (sym h))
 removed-length id (a ∷ rs) h = go (eqZ (a .report .id) id) h (removed-length id rs)
   where
@@ -154,7 +154,7 @@ passing-sorted test (a ∷ rs) h = go (test a) (passing-sorted test rs (sorted-r
     go false i = i
 
 passing-ranged : (test : Record → Bool) (rs : List Record) → allRanged rs ≡ true → allRanged (passing test rs) ≡ true
-unfolding passing allRanged
+unfolding passing every
 passing-ranged test [] h = h
 passing-ranged test (a ∷ rs) h = go (test a) (passing-ranged test rs (and-right (isRanged a) (allRanged rs) h))
   where
@@ -168,7 +168,7 @@ placed-ranged p r h =
     parts-ranged (placedIn p (r .report)) (record { report = g .report; time = g .time; key = key-in-below p (r .report) })
 
 anew-ranged : (p : ℕ) (rs : List Record) → allRanged rs ≡ true → allRanged (map (λ r. placedIn p (r .report)) rs) ≡ true
-unfolding allRanged
+unfolding every
 anew-ranged p [] h = refl
 anew-ranged p (a ∷ rs) h =
     and-true (isRanged (placedIn p (a .report))) _
@@ -181,7 +181,7 @@ all-length [] rs = omega arith
 all-length (d ∷ ds) rs = omega (arith, all-length ds (inserted d rs), inserted-length d rs)
 
 all-ranged : (ds rs : List Record) → allRanged ds ≡ true → allRanged rs ≡ true → allRanged (insertedAll ds rs) ≡ true
-unfolding insertedAll allRanged
+unfolding insertedAll every
 all-ranged [] rs h k = k
 all-ranged (d ∷ ds) rs h k =
     all-ranged ds (inserted d rs) (and-right (isRanged d) (allRanged ds) h) (inserted-ranged d rs (and-left (isRanged d) (allRanged ds) h) k)
@@ -207,7 +207,7 @@ not-none true h = absurd (true-false (sym h))
 not-none false h = refl
 
 has-all : (id : ℤ) (ds rs : List Record) → hasId id (insertedAll ds rs) ≡ hasId id ds || hasId id rs
-unfolding insertedAll hasId
+unfolding insertedAll some
 has-all id [] rs = refl
 has-all id (d ∷ ds) rs =
     has-all id ds (inserted d rs)
@@ -215,7 +215,7 @@ has-all id (d ∷ ds) rs =
     ∙ or-move (hasId id ds) (eqZ (d .report .id) id) (hasId id rs)
 
 pub inserted-distinct : (r : Record) (rs : List Record) → idsDistinct rs ≡ true → hasId (r .report .id) rs ≡ false → idsDistinct (inserted r rs) ≡ true
-unfolding inserted idsDistinct hasId
+unfolding inserted idsDistinct some
 inserted-distinct r [] h n = refl
 inserted-distinct r (a ∷ rs) h n = go (precedes r a) (inserted-distinct r rs (and-right (not (hasId (a .report .id) rs)) (idsDistinct rs) h) (rest-other (r .report .id) a rs n))
   where
@@ -317,7 +317,7 @@ module _ (staying moving : Record → Bool) where
       go false false e i = absurd (true-false (sym e))
 
   has-step : NoneLeaves → (id : ℤ) (rs : List Record) → hasId id (passing moving rs) || hasId id (passing staying rs) ≡ hasId id rs
-  unfolding passing hasId
+  unfolding passing some
   has-step n id [] = refl
   has-step n id (a ∷ rs) = go (staying a) (moving a) (n a) (has-step n id rs)
     where
@@ -341,7 +341,7 @@ module _ (staying moving : Record → Bool) where
   StepApart rs = (d : Record) → Member d (passing moving rs) → hasId (d .report .id) (passing staying rs) ≡ false
 
   step-apart : NotBoth → (rs : List Record) → idsDistinct rs ≡ true → StepApart rs
-  unfolding passing idsDistinct hasId
+  unfolding passing idsDistinct some
   step-apart n [] h d m = refl
   step-apart n (a ∷ rs) h d m = go (staying a) (moving a) (n a) (step-apart n rs (and-right (not (hasId (a .report .id) rs)) (idsDistinct rs) h)) m
     where

@@ -12,7 +12,7 @@ use lib.ListN.{length}
 use lib.Signed.{leZ, ltZ}
 use borrow.Author.Tests.{not-true}
 use Rattle.ints.specs.Whole.{eqZ}
-use Rattle.ints.specs.Lists.{passing}
+use Rattle.ints.specs.Lists.{passing, some}
 use Rattle.ints.proofs.Parts.{signed, true-false}
 use Rattle.ints.proofs.Truth.{and-true, and-left, and-right, or-right, or-neither, or-swap}
 use Rattle.ints.proofs.Same.{same-not, same-comm}
@@ -143,7 +143,7 @@ inserted-length r (a ∷ rs) = go (precedes r a) (inserted-length r rs)
     go false e = ap suc e
 
 pub has-inserted : (id : ℤ) (r : Record) (rs : List Record) → hasId id (inserted r rs) ≡ eqZ (r .report .id) id || hasId id rs
-unfolding inserted hasId
+unfolding inserted some
 has-inserted id r [] = refl
 has-inserted id r (a ∷ rs) = go (precedes r a) (has-inserted id r rs)
   where
@@ -170,14 +170,14 @@ inserted-from {x} r (a ∷ rs) m = go (precedes r a) (inserted-from r rs) m
 
 -- the first of some records has another id, and so have the rest
 first-id : (id : ℤ) (a : Record) (rs : List Record) → hasId id (a ∷ rs) ≡ false → eqZ (a .report .id) id ≡ false
-unfolding hasId
+unfolding some
 first-id id a rs h = or-neither _ (hasId id rs) h .0
 
 first-other : (r a : Record) (rs : List Record) → hasId (r .report .id) (a ∷ rs) ≡ false → eqZ (r .report .id) (a .report .id) ≡ false
 first-other r a rs h = same-comm (r .report .id) (a .report .id) ∙ first-id (r .report .id) a rs h
 
 pub rest-other : (id : ℤ) (a : Record) (rs : List Record) → hasId id (a ∷ rs) ≡ false → hasId id rs ≡ false
-unfolding hasId
+unfolding some
 rest-other id a rs h = or-neither (eqZ (a .report .id) id) _ h .1
 
 pub ascending-inserted : (r : Record) (rs : List Record) → hasId (r .report .id) rs ≡ false → Ascending rs → Ascending (inserted r rs)
@@ -343,7 +343,7 @@ module _ (test : Record → Bool) where
       go false k = rw k
 
   pub has-passing : (id : ℤ) (rs : List Record) → hasId id rs ≡ false → hasId id (passing test rs) ≡ false
-  unfolding hasId passing
+  unfolding some passing
   has-passing id [] n = refl
   has-passing id (a ∷ rs) n = go (test a) (has-passing id rs (rest-other id a rs n))
     where
@@ -353,7 +353,7 @@ module _ (test : Record → Bool) where
 
 -- placed anew, a record has the id that it had
 pub has-anew : (p : ℕ) (id : ℤ) (rs : List Record) → hasId id (map (λ r. placedIn p (r .report)) rs) ≡ hasId id rs
-unfolding hasId
+unfolding some
 has-anew p id [] = refl
 has-anew p id (a ∷ rs) = ap (λ (b : Bool). eqZ (a .report .id) id || b) (has-anew p id rs)
 

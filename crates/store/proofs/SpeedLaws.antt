@@ -12,21 +12,23 @@ use lib.IntN.{ℤ, natAbs}
 use lib.ListN.{length}
 use borrow.Author.Tests.{eqb-true, eqb-false, ne-eqb}
 use Rattle.ints.specs.Lists.{passing}
+use Rattle.ints.proofs.Members.{map-passing}
 use Rattle.ints.proofs.Truth.{and-left, and-right}
 use Rattle.grid.specs.Units.{cells}
 use Rattle.rows.specs.Phases.{slots, slotOf}
-use Rattle.rows.specs.Row.{rowOfSpeed, joined, widened, validRow, boundsOf}
-use Rattle.rows.specs.Table.{tableWords, rowAt, withSpeed}
+use Rattle.rows.specs.Row.{driftOf, rowOfDrift, joined, widened, validRow, boundsOf}
+use Rattle.rows.specs.Table.{tableWords, rowAt, withDrift}
 use Rattle.rows.specs.declared.Row.{Row}
-use Rattle.rows.proofs.RowLaws.{joined-comm, joined-assoc, joined-empty-right, widened-valid}
+use Rattle.rows.proofs.RowLaws.{joined-comm, joined-assoc, joined-empty-right, widened-valid, DriftInRange}
 use Rattle.rows.proofs.TableLaws.{row-written, row-other, length-with-row}
 use Rattle.records.specs.Order.{keyIn, slotOfKey, numberOfKey, precedes}
-use Rattle.store.specs.Changes.{inserted, placedIn, replaced, withSpeeds}
+use Rattle.store.specs.Changes.{inserted, placedIn, replaced, widenedBy, widenedByAll}
 use Rattle.records.specs.declared.Record.{Record}
 use Rattle.records.proofs.SoundLawsKeys.{slot-of-key-in}
 
-abbrev speedOf : Record → Row
-speedOf r = rowOfSpeed (r .report .vx) (r .report .vy)
+-- the row of a record's speeds alone
+abbrev pub ownRow : Record → Row
+ownRow r = rowOfDrift (driftOf (r .report))
 
 -- whether a record lies in a row of the table
 abbrev pub liesAt : ℕ → ℕ → Record → Bool
@@ -34,43 +36,45 @@ liesAt slot number r = eqb (slotOfKey (r .key)) slot && eqb (numberOfKey (r .key
 
 -- the speeds of the records that lie there
 unfoldable pub speedsAt : ℕ → ℕ → List Record → List Row
-speedsAt slot number [] = []
-speedsAt slot number (r ∷ rs) =
-    cond (liesAt slot number r) (rowOfSpeed (r .report .vx) (r .report .vy) ∷ speedsAt slot number rs) (speedsAt slot number rs)
+speedsAt slot number rs = map ownRow (passing (liesAt slot number) rs)
+
+speeds-first : (slot number : ℕ) (r : Record) (rs : List Record)
+    → speedsAt slot number (r ∷ rs) ≡ cond (liesAt slot number r) (ownRow r ∷ speedsAt slot number rs) (speedsAt slot number rs)
+unfolding speedsAt
+speeds-first slot number r rs = map-passing ownRow (liesAt slot number) r rs
 
 -- a key of the three slots, speeds in range
 pub record Placeable (r : Record) : Type 0 where
   pub slot-on : slotOfKey (r .key) < slots
-  pub small-x : natAbs (r .report .vx) ≤ 500
-  pub small-y : natAbs (r .report .vy) ≤ 500
+  pub in-range : DriftInRange (driftOf (r .report))
 
-pub with-speeds-length : (t : List ℤ) (rs : List Record) → length (withSpeeds t rs) ≡ length t
-unfolding withSpeeds
+pub with-speeds-length : (t : List ℤ) (rs : List Record) → length (widenedByAll t rs) ≡ length t
+unfolding widenedByAll
 with-speeds-length t [] = refl
 with-speeds-length t (r ∷ rs) =
     let slot = slotOfKey (r .key) in
     let number = numberOfKey (r .key) in
-    with-speeds-length (withSpeed t slot number (r .report .vx) (r .report .vy)) rs
-    ∙ length-with-row t slot number (widened (rowAt t slot number) (r .report .vx) (r .report .vy))
+    with-speeds-length (withDrift t slot number (driftOf (r .report))) rs
+    ∙ length-with-row t slot number (widened (rowAt t slot number) (driftOf (r .report)))
 
 -- ---- one record
 
 module _ (t : List ℤ) (r : Record) (slot number : ℕ) (sized : length t ≡ tableWords) (placeable : Placeable r) (here : number < cells) where
   after-one : List ℤ
-  after-one = withSpeed t (slotOfKey (r .key)) (numberOfKey (r .key)) (r .report .vx) (r .report .vy)
+  after-one = widenedBy t r
 
-  row-after : (b : Bool) → liesAt slot number r ≡ b → rowAt after-one slot number ≡ cond b (widened (rowAt t slot number) (r .report .vx) (r .report .vy)) (rowAt t slot number)
+  row-after : (b : Bool) → liesAt slot number r ≡ b → rowAt after-one slot number ≡ cond b (widened (rowAt t slot number) (driftOf (r .report))) (rowAt t slot number)
   unfolding after-one
   row-after true e =
       let s = eqb-true (slotOfKey (r .key)) slot (and-left _ (eqb (numberOfKey (r .key)) number) e) in
       let n = eqb-true (numberOfKey (r .key)) number (and-right (eqb (slotOfKey (r .key)) slot) _ e) in
-      let new = widened (rowAt t (slotOfKey (r .key)) (numberOfKey (r .key))) (r .report .vx) (r .report .vy) in
+      let new = widened (rowAt t (slotOfKey (r .key)) (numberOfKey (r .key))) (driftOf (r .report)) in
       ap (rowAt after-one slot) (sym n)
       ∙ ap (λ (x : ℕ). rowAt after-one x (numberOfKey (r .key))) (sym s)
       ∙ row-written t (slotOfKey (r .key)) (numberOfKey (r .key)) new sized (placeable .slot-on) (omega arith)
-      ∙ (λ i. widened (rowAt t (s i) (n i)) (r .report .vx) (r .report .vy))
+      ∙ (λ i. widened (rowAt t (s i) (n i)) (driftOf (r .report)))
   row-after false e =
-      row-other t (slotOfKey (r .key)) (numberOfKey (r .key)) (widened (rowAt t (slotOfKey (r .key)) (numberOfKey (r .key))) (r .report .vx) (r .report .vy)) slot number (omega arith) here
+      row-other t (slotOfKey (r .key)) (numberOfKey (r .key)) (widened (rowAt t (slotOfKey (r .key)) (numberOfKey (r .key))) (driftOf (r .report))) slot number (omega arith) here
       (apart (eqb (slotOfKey (r .key)) slot) refl e)
     where
       apart : (b : Bool) → eqb (slotOfKey (r .key)) slot ≡ b → b && eqb (numberOfKey (r .key)) number ≡ false → (slot ≢ slotOfKey (r .key)) ⊎ (number ≢ numberOfKey (r .key))
@@ -82,7 +86,7 @@ module _ (t : List ℤ) (r : Record) (slot number : ℕ) (sized : length t ≡ t
     where
       go : (b : Bool) → liesAt slot number r ≡ b → validRow (rowAt after-one slot number) ≡ true
       go true e =
-          ap validRow (row-after true e) ∙ widened-valid (rowAt t slot number) (r .report .vx) (r .report .vy) v (placeable .small-x) (placeable .small-y) .0
+          ap validRow (row-after true e) ∙ widened-valid (rowAt t slot number) (driftOf (r .report)) v (placeable .in-range) .0
       go false e = ap validRow (row-after false e) ∙ v
 
 -- ---- some records
@@ -93,16 +97,17 @@ pub row-with-speeds :
     → ((r : Record) → List·Memᴰ r rs → Placeable r)
     → number < cells
     → validRow (rowAt t slot number) ≡ true
-    → rowAt (withSpeeds t rs) slot number ≡ joined (rowAt t slot number) (boundsOf (speedsAt slot number rs))
-unfolding withSpeeds speedsAt boundsOf after-one
+    → rowAt (widenedByAll t rs) slot number ≡ joined (rowAt t slot number) (boundsOf (speedsAt slot number rs))
+unfolding widenedByAll speedsAt passing boundsOf after-one
 row-with-speeds t [] slot number sized each h v = sym (joined-empty-right (rowAt t slot number) v)
 row-with-speeds t (r ∷ rs) slot number sized each h v =
     row-with-speeds (after-one t r slot number sized p h) rs slot number
-    (length-with-row t (slotOfKey (r .key)) (numberOfKey (r .key)) (widened (rowAt t (slotOfKey (r .key)) (numberOfKey (r .key))) (r .report .vx) (r .report .vy)) ∙ sized)
+    (length-with-row t (slotOfKey (r .key)) (numberOfKey (r .key)) (widened (rowAt t (slotOfKey (r .key)) (numberOfKey (r .key))) (driftOf (r .report))) ∙ sized)
     (λ q m. each q (List·Memᴰ·tail m))
     h
     (valid-after t r slot number sized p h v)
     ∙ go (liesAt slot number r) refl
+    ∙ ap (λ (rows : List Row). joined (rowAt t slot number) (boundsOf rows)) (sym (speeds-first slot number r rs))
   where
     p : Placeable r
     p = each r (List·Memᴰ·head refl)
@@ -113,10 +118,10 @@ row-with-speeds t (r ∷ rs) slot number sized each h v =
     go :
         (b : Bool)
         → liesAt slot number r ≡ b
-        → joined (rowAt (after-one t r slot number sized p h) slot number) (boundsOf rest) ≡ joined (rowAt t slot number) (boundsOf (cond b (speedOf r ∷ rest) rest))
+        → joined (rowAt (after-one t r slot number sized p h) slot number) (boundsOf rest) ≡ joined (rowAt t slot number) (boundsOf (cond b (ownRow r ∷ rest) rest))
     go true e =
         ap (λ (x : Row). joined x (boundsOf rest)) (row-after t r slot number sized p h true e)
-        ∙ joined-assoc (rowAt t slot number) (speedOf r) (boundsOf rest)
+        ∙ joined-assoc (rowAt t slot number) (ownRow r) (boundsOf rest)
     go false e = ap (λ (x : Row). joined x (boundsOf rest)) (row-after t r slot number sized p h false e)
 
 -- ---- the records that a clock step places anew
@@ -129,7 +134,7 @@ module _ (p : ℕ) (moving : Record → Bool) (slot number : ℕ) where
   -- with one record more
   abbrev pub withOne : Record → Row → Row
   withOne r row =
-      cond (moving r) (cond (liesAt slot number (placedIn p (r .report))) (joined (rowOfSpeed (r .report .vx) (r .report .vy)) row) row) row
+      cond (moving r) (cond (liesAt slot number (placedIn p (r .report))) (joined (ownRow r) row) row) row
 
   pub bounds-first : (r : Record) (rs : List Record) → newBounds (r ∷ rs) ≡ withOne r (newBounds rs)
   unfolding speedsAt passing boundsOf
@@ -141,15 +146,15 @@ module _ (p : ℕ) (moving : Record → Bool) (slot number : ℕ) where
       rest : List Row
       rest = speedsAt slot number (replaced p moving rs)
 
-      inner : (b : Bool) → boundsOf (cond b (speedOf new ∷ rest) rest) ≡ cond b (joined (speedOf new) (boundsOf rest)) (boundsOf rest)
+      inner : (b : Bool) → boundsOf (cond b (ownRow new ∷ rest) rest) ≡ cond b (joined (ownRow new) (boundsOf rest)) (boundsOf rest)
       inner true = refl
       inner false = refl
 
       anew : Bool → List Record
       anew a = map (λ x. placedIn p (x .report)) (cond a (r ∷ passing moving rs) (passing moving rs))
 
-      go : (a : Bool) → boundsOf (speedsAt slot number (anew a)) ≡ cond a (cond (liesAt slot number new) (joined (speedOf r) (newBounds rs)) (newBounds rs)) (newBounds rs)
-      go true = inner (liesAt slot number new)
+      go : (a : Bool) → boundsOf (speedsAt slot number (anew a)) ≡ cond a (cond (liesAt slot number new) (joined (ownRow r) (newBounds rs)) (newBounds rs)) (newBounds rs)
+      go true = ap boundsOf (speeds-first slot number new (replaced p moving rs)) ∙ inner (liesAt slot number new)
       go false = refl
 
   with-swap : (r a : Record) (row : Row) → withOne r (withOne a row) ≡ withOne a (withOne r row)
@@ -157,13 +162,13 @@ module _ (p : ℕ) (moving : Record → Bool) (slot number : ℕ) where
       go (moving r) (moving a) (liesAt slot number (placedIn p (r .report))) (liesAt slot number (placedIn p (a .report)))
     where
       one : Record → Bool → Bool → Row → Row
-      one x moved lies to = cond moved (cond lies (joined (speedOf x) to) to) to
+      one x moved lies to = cond moved (cond lies (joined (ownRow x) to) to) to
 
       go : (u v m n : Bool) → one r u m (one a v n row) ≡ one a v n (one r u m row)
       go true true true true =
-          sym (joined-assoc (speedOf r) (speedOf a) row)
-          ∙ ap (λ (x : Row). joined x row) (joined-comm (speedOf r) (speedOf a))
-          ∙ joined-assoc (speedOf a) (speedOf r) row
+          sym (joined-assoc (ownRow r) (ownRow a) row)
+          ∙ ap (λ (x : Row). joined x row) (joined-comm (ownRow r) (ownRow a))
+          ∙ joined-assoc (ownRow a) (ownRow r) row
       go true true true false = refl
       go true true false n = refl
       go true false m n = refl
@@ -185,7 +190,7 @@ module _ (p : ℕ) (moving : Record → Bool) (slot number : ℕ) where
 
   -- none of them lies in another slot
   pub none-elsewhere : (rs : List Record) → slotOf p ≢ slot → speedsAt slot number (replaced p moving rs) ≡ []
-  unfolding speedsAt
+  unfolding speedsAt passing
   none-elsewhere rs n = go (passing moving rs)
     where
       far : (r : Record) → eqb (slotOfKey (keyIn p (r .report))) slot ≡ false
@@ -193,4 +198,4 @@ module _ (p : ℕ) (moving : Record → Bool) (slot number : ℕ) where
 
       go : (ms : List Record) → speedsAt slot number (map (λ r. placedIn p (r .report)) ms) ≡ []
       go [] = refl
-      go (r ∷ ms) = rw (far r) (go ms)
+      go (r ∷ ms) = speeds-first slot number (placedIn p (r .report)) (map (λ q. placedIn p (q .report)) ms) ∙ rw (far r) (go ms)

@@ -8,16 +8,16 @@ use native.Mathlib.Omega.{arith}
 use lib.IntN.{ℤ, pos}
 use lib.ListN.{length, set, take, drop, replicate, length-append, length-take, length-drop, length-set, replicate-append-replicate}
 use lib.Seq.{drop-drop, take-at, drop-at, take-add, take-all, length-take-le}
-use Rattle.ints.specs.Lists.{passing}
+use Rattle.ints.specs.Lists.{passing, every}
 use Rattle.ints.proofs.Truth.{and-true, and-left, and-right}
 use Rattle.ints.proofs.Members.{map-append, passing-append}
 use Rattle.grid.specs.Units.{capacity}
 use Rattle.rows.specs.Phases.{phaseOf, isLive}
-use Rattle.rows.specs.Table.{tableWords, withRow, withSpeed}
+use Rattle.rows.specs.Table.{tableWords, withRow}
 use Rattle.records.specs.Records.{recordWords, storeWords, recordFrom, nowOf, heldOf, readRecords, recordsOf, wordsOf, wordsOfAll, header, storeOf}
 use Rattle.records.specs.Order.{slotOfKey, numberOfKey, phaseOfKey}
 use Rattle.records.specs.Soundness.{isRanged, allRanged, IsStore}
-use Rattle.store.specs.Changes.{insertedAll, placedIn, stays, moves, replaced, steppedRecords, withSpeeds}
+use Rattle.store.specs.Changes.{insertedAll, placedIn, stays, moves, replaced, steppedRecords, widenedBy, widenedByAll}
 use Rattle.records.specs.Places.{HasWords}
 use Rattle.store.specs.Walks.{IsStep, KeptFirst, Taken, PlaceAsked}
 use Rattle.records.specs.declared.Record.{Record}
@@ -72,7 +72,7 @@ module _ (now : ℤ) (rs : List Record) (s : List ℤ) (e : s ≡ storeOf now rs
       record { words = e ∙ (λ i. storeOf (sym now-is i) (sym records-are i)); few = omega arith }
 
 ranged-append : (xs ys : List Record) → allRanged xs ≡ true → allRanged ys ≡ true → allRanged (xs ++ ys) ≡ true
-unfolding allRanged
+unfolding every
 ranged-append [] ys h k = k
 ranged-append (x ∷ xs) ys h k =
     and-true (isRanged x) (allRanged (xs ++ ys)) (and-left (isRanged x) (allRanged xs) h) (ranged-append xs ys (and-right (isRanged x) (allRanged xs) h) k)
@@ -118,7 +118,7 @@ pub record Pass (s₀ : List ℤ) (to : ℕ) (staying moving : Record → Bool) 
 
 pub pass-start : (s dead : List ℤ) (to : ℕ) (staying moving : Record → Bool) (n : ℕ) → IsStore s → n ≡ heldOf s → length dead ≡ 7168
     → Pass s to staying moving n s dead 0 0
-unfolding readRecords allRanged passing wordsOfAll
+unfolding readRecords every passing wordsOfAll
 pass-start s dead to staying moving n q e l =
     let room = store-room s q in
     let f = room .few in
@@ -153,13 +153,13 @@ module _ (s₀ : List ℤ) (to : ℕ) (staying moving : Record → Bool) (n : �
   one-more = take-add i 1 (recordsOf s₀) ∙ ap (λ (l : List Record). take i (recordsOf s₀) ++ take 1 l) here
 
   pub pass-ranged : isRanged r ≡ true
-  unfolding allRanged
+  unfolding every
   pass-ranged =
       let x : allRanged (r ∷ drop (i + 1) (recordsOf s₀)) ≡ true = rw here at (p .ranged) in
       and-left (isRanged r) (allRanged (drop (i + 1) (recordsOf s₀))) x
 
   later-ranged : allRanged (drop (i + 1) (recordsOf s₀)) ≡ true
-  unfolding allRanged
+  unfolding every
   later-ranged =
       let x : allRanged (r ∷ drop (i + 1) (recordsOf s₀)) ≡ true = rw here at (p .ranged) in
       and-right (isRanged r) (allRanged (drop (i + 1) (recordsOf s₀))) x
@@ -245,7 +245,7 @@ module _ (s₀ : List ℤ) (to : ℕ) (staying moving : Record → Bool) (n : �
   pub pass-dead : staying r ≡ false → moving r ≡ true → (a : Record) → a ≡ placedIn to (r .report) → (dead′ : List ℤ)
       → dead′ ≡ take (recordWords * (i - k)) dead ++ (wordsOf a ++ drop (recordWords * (i - k) + recordWords) dead)
       → Pass s₀ to staying moving n s dead′ k (i + 1)
-  unfolding passing allRanged
+  unfolding passing every
   pass-dead rest move a ea dead′ ed =
       let rs = recordsOf s₀ in
       let m = i - k in
@@ -337,15 +337,15 @@ taken-out s₀ s ys s′ staying n k q en f ls ey es =
 
 -- ---- records put in, and their rows widened
 
-table-length : (t : List ℤ) (slot number : ℕ) (vx vy : ℤ) → length (withSpeed t slot number vx vy) ≡ length t
+table-length : (t : List ℤ) (r : Record) → length (widenedBy t r) ≡ length t
 unfolding withRow
-table-length t slot number vx vy = simp length-set
+table-length t r = simp length-set
 
 -- after j records
 pub record Widen (t₀ dead : List ℤ) (m : ℕ) (t : List ℤ) (j : ℕ) : Type 0 where
   pub inside : j ≤ m
   pub table : length t ≡ tableWords
-  pub table-is : withSpeeds t₀ (readRecords m dead) ≡ withSpeeds t (readRecords (m - j) (drop (recordWords * j) dead))
+  pub table-is : widenedByAll t₀ (readRecords m dead) ≡ widenedByAll t (readRecords (m - j) (drop (recordWords * j) dead))
   pub ranged : allRanged (readRecords (m - j) (drop (recordWords * j) dead)) ≡ true
 
 pub widen-start : (t dead : List ℤ) (m : ℕ) → length t ≡ tableWords → allRanged (readRecords m dead) ≡ true → Widen t dead m t 0
@@ -361,17 +361,17 @@ module _ (t₀ dead : List ℤ) (m : ℕ) (t : List ℤ) (j : ℕ) (p : Widen t�
   rest-ranged = rw rest-here at (p .ranged)
 
   pub widen-in-range : isRanged r ≡ true
-  unfolding allRanged
+  unfolding every
   widen-in-range = and-left (isRanged r) (allRanged (readRecords (m - (j + 1)) (drop (recordWords * (j + 1)) dead))) rest-ranged
 
-  pub widen-more : (t′ : List ℤ) → t′ ≡ withSpeed t (slotOfKey (r .key)) (numberOfKey (r .key)) (r .report .vx) (r .report .vy) → Widen t₀ dead m t′ (j + 1)
-  unfolding withSpeeds allRanged
+  pub widen-more : (t′ : List ℤ) → t′ ≡ widenedBy t r → Widen t₀ dead m t′ (j + 1)
+  unfolding widenedByAll every
   widen-more t′ et =
       let rest = readRecords (m - (j + 1)) (drop (recordWords * (j + 1)) dead) in
       record {
         inside = omega arith;
-        table = ap length et ∙ table-length t (slotOfKey (r .key)) (numberOfKey (r .key)) (r .report .vx) (r .report .vy) ∙ p .table;
-        table-is = p .table-is ∙ ap (withSpeeds t) rest-here ∙ ap (λ (q : List ℤ). withSpeeds q rest) (sym et);
+        table = ap length et ∙ table-length t r ∙ p .table;
+        table-is = p .table-is ∙ ap (widenedByAll t) rest-here ∙ ap (λ (q : List ℤ). widenedByAll q rest) (sym et);
         ranged = and-right (isRanged r) (allRanged rest) rest-ranged;
       }
 
@@ -379,22 +379,22 @@ inserted-none : (rs : List Record) → insertedAll [] rs ≡ rs
 unfolding insertedAll
 inserted-none rs = refl
 
-speeds-none : (t : List ℤ) → withSpeeds t [] ≡ t
-unfolding withSpeeds
+speeds-none : (t : List ℤ) → widenedByAll t [] ≡ t
+unfolding widenedByAll
 speeds-none t = refl
 
-pub widen-end : (t₀ dead : List ℤ) (m : ℕ) (t : List ℤ) (j : ℕ) → Widen t₀ dead m t j → m ≤ j → t ≡ withSpeeds t₀ (readRecords m dead)
+pub widen-end : (t₀ dead : List ℤ) (m : ℕ) (t : List ℤ) (j : ℕ) → Widen t₀ dead m t j → m ≤ j → t ≡ widenedByAll t₀ (readRecords m dead)
 widen-end t₀ dead m t j p h =
     let none : readRecords (m - j) (drop (recordWords * j) dead) ≡ [] = no-records (m - j) (drop (recordWords * j) dead) (omega arith) in
-    sym (p .table-is ∙ ap (withSpeeds t) none ∙ speeds-none t)
+    sym (p .table-is ∙ ap (widenedByAll t) none ∙ speeds-none t)
 
 -- nothing to place
 pub none-stored : (s dead : List ℤ) (m : ℕ) → HasWords s → m ≡ 0 → s ≡ storeOf (nowOf s) (insertedAll (readRecords m dead) (recordsOf s))
 none-stored s dead m q e =
     q .words ∙ ap (storeOf (nowOf s)) (sym (ap (λ (l : List Record). insertedAll l (recordsOf s)) (no-records m dead e) ∙ inserted-none (recordsOf s)))
 
-pub none-widened : (t dead : List ℤ) (m : ℕ) → m ≡ 0 → t ≡ withSpeeds t (readRecords m dead)
-none-widened t dead m e = sym (ap (withSpeeds t) (no-records m dead e) ∙ speeds-none t)
+pub none-widened : (t dead : List ℤ) (m : ℕ) → m ≡ 0 → t ≡ widenedByAll t (readRecords m dead)
+none-widened t dead m e = sym (ap (widenedByAll t) (no-records m dead e) ∙ speeds-none t)
 
 -- ---- the two halves of a step
 
@@ -424,5 +424,5 @@ module _ (s₀ s dead : List ℤ) (now time : ℤ) (m : ℕ) (es : s ≡ storeOf
       e ∙ (λ i. storeOf (now-is (nowOf s₀) left s es i) (insertedAll (k .dead-are i) (records-are (nowOf s₀) left s es i)))
 
 pub step-widened : (t t′ dead : List ℤ) (to : ℕ) (moving : Record → Bool) (m : ℕ) (rs : List Record) → Taken to moving rs m dead
-    → t′ ≡ withSpeeds t (readRecords m dead) → t′ ≡ withSpeeds t (replaced to moving rs)
-step-widened t t′ dead to moving m rs k e = e ∙ ap (withSpeeds t) (k .dead-are)
+    → t′ ≡ widenedByAll t (readRecords m dead) → t′ ≡ widenedByAll t (replaced to moving rs)
+step-widened t t′ dead to moving m rs k e = e ∙ ap (widenedByAll t) (k .dead-are)

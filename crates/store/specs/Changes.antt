@@ -8,7 +8,8 @@ use Rattle.ints.specs.Whole.{eqZ}
 use Rattle.ints.specs.Lists.{passing}
 use Rattle.grid.specs.declared.Report.{Report}
 use Rattle.rows.specs.Phases.{phaseOf, isLive}
-use Rattle.rows.specs.Table.{withSpeed}
+use Rattle.rows.specs.Row.{driftOf}
+use Rattle.rows.specs.Table.{withDrift}
 use Rattle.records.specs.Order.{keyIn, slotOfKey, numberOfKey, phaseOfKey, precedes}
 use Rattle.records.specs.declared.Record.{Record}
 
@@ -49,8 +50,10 @@ unfoldable pub steppedRecords : ℤ → ℤ → List Record → List Record
 steppedRecords now time rs =
     insertedAll (replaced (phaseOf time) (moves now time) rs) (passing (stays now time) rs)
 
--- the table with the row of each of some records widened by its speeds
-unfoldable pub withSpeeds : List ℤ → List Record → List ℤ
-withSpeeds t [] = t
-withSpeeds t (r ∷ rs) =
-    withSpeeds (withSpeed t (slotOfKey (r .key)) (numberOfKey (r .key)) (r .report .vx) (r .report .vy)) rs
+-- the table with the row of a record's cell widened by its speeds
+abbrev pub widenedBy : List ℤ → Record → List ℤ
+widenedBy t r = withDrift t (slotOfKey (r .key)) (numberOfKey (r .key)) (driftOf (r .report))
+
+unfoldable pub widenedByAll : List ℤ → List Record → List ℤ
+widenedByAll t [] = t
+widenedByAll t (r ∷ rs) = widenedByAll (widenedBy t r) rs

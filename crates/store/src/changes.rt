@@ -10,11 +10,11 @@ ghost use Rattle.grid.specs.Curve.{IsCurve};
 ghost use Rattle.grid.specs.Reports.{isTime, inRange};
 ghost use Rattle.ints.specs.Lists.{passing};
 ghost use Rattle.rows.specs.Phases.{phaseOf};
-ghost use Rattle.rows.specs.Table.{tableWords, withSpeed};
+ghost use Rattle.rows.specs.Table.{tableWords};
 ghost use Rattle.records.specs.Records.{recordWords, nowOf, heldOf, readRecords, recordsOf, wordsOf, storeOf};
-ghost use Rattle.records.specs.Order.{slotOfKey, numberOfKey, precedes, hasId};
+ghost use Rattle.records.specs.Order.{precedes, hasId};
 ghost use Rattle.records.specs.Soundness.{isRanged, allRanged, IsStore};
-ghost use Rattle.store.specs.Changes.{inserted, insertedAll, removed, placedIn, stays, moves, replaced, steppedRecords, withSpeeds};
+ghost use Rattle.store.specs.Changes.{inserted, insertedAll, removed, placedIn, stays, moves, replaced, steppedRecords, widenedBy, widenedByAll};
 ghost use Rattle.records.specs.Places.{HasWords};
 ghost use Rattle.store.specs.Walks.{placeOf, indexOf, IsStep, KeptFirst, Taken, PlaceAsked};
 use super::opening::clear;
@@ -25,9 +25,9 @@ use grid::Report;
 use records::RECORD_WORDS;
 use records::Record;
 use records::held_of;
+use records::soundness::drift_of;
 use records::soundness::is_same;
 use records::soundness::key_in;
-use records::soundness::narrow;
 use records::soundness::number_of_key;
 use records::soundness::phase_of_key;
 use records::soundness::precedes;
@@ -278,17 +278,20 @@ fn take_dead(store: &mut [i32], step: Step, dead: &mut [i32]) -> usize
 // The row of a record's cell widened by its speeds.
 pub fn widen(table: &mut [i16], r: Record)
     requires { ⌜ (length (now table) ≡ tableWords) × (isRanged r ≡ true) ⌝ }
-    ensures { λ u. ⌜ now (table .exit) ≡ withSpeed (now (table .entry)) (slotOfKey (r .key)) (numberOfKey (r .key)) (r .report .vx) (r .report .vy) ⌝ }
+    ensures { λ u. ⌜ now (table .exit) ≡ widenedBy (now (table .entry)) r ⌝ }
 {
-    let vx = narrow(r.report.vx);
-    let vy = narrow(r.report.vy);
-    widen_row(table, slot_of_key(r.key), number_of_key(r.key), vx, vy);
+    widen_row(
+        table,
+        slot_of_key(r.key),
+        number_of_key(r.key),
+        drift_of(r.report),
+    );
 }
 
 // Widens the row of each of the first m records of `dead`.
 fn widen_all(table: &mut [i16], dead: &[i32], m: usize)
     requires { ⌜ (length (now table) ≡ tableWords) × (recordWords * m ≤ length (now dead)) × (allRanged (readRecords m (now dead)) ≡ true) ⌝ }
-    ensures { λ u. ⌜ now (table .exit) ≡ withSpeeds (now (table .entry)) (readRecords m (now (dead .entry))) ⌝ }
+    ensures { λ u. ⌜ now (table .exit) ≡ widenedByAll (now (table .entry)) (readRecords m (now (dead .entry))) ⌝ }
 {
     let mut j = 0;
     while j < m {
@@ -301,7 +304,7 @@ fn widen_all(table: &mut [i16], dead: &[i32], m: usize)
 fn place_dead(store: &mut [i32], table: &mut [i16], dead: &[i32], m: usize)
     requires { ⌜ PlaceAsked (now store) (now table) (now dead) m ⌝ }
     ensures { λ u. ⌜ now (store .exit) ≡ storeOf (nowOf (now (store .entry))) (insertedAll (readRecords m (now (dead .entry))) (recordsOf (now (store .entry)))) ⌝ }
-    ensures { λ u. ⌜ now (table .exit) ≡ withSpeeds (now (table .entry)) (readRecords m (now (dead .entry))) ⌝ }
+    ensures { λ u. ⌜ now (table .exit) ≡ widenedByAll (now (table .entry)) (readRecords m (now (dead .entry))) ⌝ }
 {
     if m == 0 {
         return;
@@ -314,7 +317,7 @@ fn place_dead(store: &mut [i32], table: &mut [i16], dead: &[i32], m: usize)
 pub fn step_records(store: &mut [i32], table: &mut [i16], step: Step)
     requires { ⌜ (IsStore (now store)) × (length (now table) ≡ tableWords) × (IsStep step) ⌝ }
     ensures { λ u. ⌜ now (store .exit) ≡ storeOf (nowOf (now (store .entry))) (steppedRecords (step .now) (step .time) (recordsOf (now (store .entry)))) ⌝ }
-    ensures { λ u. ⌜ now (table .exit) ≡ withSpeeds (now (table .entry)) (replaced (phaseOf (step .time)) (moves (step .now) (step .time)) (recordsOf (now (store .entry)))) ⌝ }
+    ensures { λ u. ⌜ now (table .exit) ≡ widenedByAll (now (table .entry)) (replaced (phaseOf (step .time)) (moves (step .now) (step .time)) (recordsOf (now (store .entry)))) ⌝ }
 {
     let mut dead = [0i32; 7168];
     let m = take_dead(store, step, &mut dead);

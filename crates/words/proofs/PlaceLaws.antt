@@ -10,6 +10,7 @@ use lib.ListN.{length}
 use lib.Signed.{mag}
 use mir.Syntax.{w32}
 use mir.Val.{hbits}
+use Rattle.ints.specs.Lists.{every}
 use Rattle.ints.specs.Whole.{eqZ}
 use Rattle.ints.proofs.Machine.{back, held}
 use Rattle.grid.specs.Units.{capacity}
@@ -146,7 +147,7 @@ placed-can-change w r can other =
     }
 
 none-ranged : allRanged [] ≡ true
-unfolding allRanged
+unfolding every
 none-ranged = refl
 
 none-sorted : isSorted [] ≡ true

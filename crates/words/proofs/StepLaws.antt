@@ -18,7 +18,7 @@ use Rattle.rows.proofs.PhaseLaws.{live-range, listed-live, phases-grow}
 use Rattle.records.specs.Records.{recordsOf, storeOf}
 use Rattle.records.specs.Order.{isSorted, phaseOfKey}
 use Rattle.records.specs.Soundness.{allRanged, IsStore}
-use Rattle.store.specs.Changes.{placedIn, stays, moves, replaced, insertedAll, steppedRecords, withSpeeds}
+use Rattle.store.specs.Changes.{placedIn, stays, moves, replaced, insertedAll, steppedRecords, widenedByAll}
 use Rattle.store.specs.Walks.{IsStep}
 use Rattle.store.specs.declared.changes.Step.{Step}
 use Rattle.records.specs.declared.Record.{Record}
@@ -76,9 +76,9 @@ module _ (w : Words) (time : ℤ) (can : CanStep w time) where
     records-same = ap₂ insertedAll none-moves (passing-all (stays now time) records all-stay)
 
     table-same : tableStepped now time records (w .table) ≡ w .table
-    unfolding tableStepped withSpeeds
+    unfolding tableStepped widenedByAll
     table-same =
-        ap₂ (λ (p : ℕ) (rs : List Record). withSpeeds (withNewlyLiveEmpty (w .table) from p) rs) same none-moves
+        ap₂ (λ (p : ℕ) (rs : List Record). widenedByAll (withNewlyLiveEmpty (w .table) from p) rs) same none-moves
         ∙ nothing-new from (w .table) (livePhases from) (λ p m. live-range from p (listed-live from p m) .0)
 
   -- in the same phase only the time changes

@@ -5,12 +5,11 @@ use mathlib.Core.List.{List, []}
 use lib.IntN.{ℤ}
 use Rattle.grid.specs.declared.Report.{Report}
 use Rattle.rows.specs.Phases.{phaseOf}
-use Rattle.rows.specs.Table.{withSpeed, withSlotEmpty, withNewlyLiveEmpty}
+use Rattle.rows.specs.Table.{withSlotEmpty, withNewlyLiveEmpty}
 use Rattle.records.specs.Records.{storeOf}
-use Rattle.records.specs.Order.{slotOfKey, numberOfKey}
 use Rattle.records.specs.Words.{Words, timeIn, recordsIn}
 use Rattle.records.specs.declared.Record.{Record}
-use Rattle.store.specs.Changes.{inserted, removed, placedIn, moves, replaced, steppedRecords, withSpeeds}
+use Rattle.store.specs.Changes.{inserted, removed, placedIn, moves, replaced, steppedRecords, widenedBy, widenedByAll}
 
 -- that time, no float held, every row empty
 unfoldable pub opened : ℤ → Words → Words
@@ -24,7 +23,7 @@ opened time w = record {
 -- the rows of every newly live phase emptied; then the row of each re-placed float widened
 unfoldable pub tableStepped : ℤ → ℤ → List Record → List ℤ → List ℤ
 tableStepped now time rs t =
-    withSpeeds (withNewlyLiveEmpty t (phaseOf now) (phaseOf time)) (replaced (phaseOf time) (moves now time) rs)
+    widenedByAll (withNewlyLiveEmpty t (phaseOf now) (phaseOf time)) (replaced (phaseOf time) (moves now time) rs)
 
 unfoldable pub stepped : ℤ → Words → Words
 stepped time w = record {
@@ -33,10 +32,6 @@ stepped time w = record {
 }
 
 -- ---- what a change does after it
-
--- the row of a record's cell widened by its speeds
-abbrev pub widenedBy : List ℤ → Record → List ℤ
-widenedBy t r = withSpeed t (slotOfKey (r .key)) (numberOfKey (r .key)) (r .report .vx) (r .report .vy)
 
 -- a report placed in the phase of its time: its record put in, its row widened
 unfoldable pub placed : Report → Words → Words

@@ -3,8 +3,6 @@
 use mathlib.Core.Path.{ap, _∙_}
 use borrow.Author.Needs.{needs}
 use denote.Ref.{now}
-use mir.Syntax.{w16}
-use Rattle.ints.proofs.Machine.{tested₂}
 use Rattle.rows.specs.Row.{widened}
 use Rattle.rows.specs.Table.{withRow}
 use Rattle.rows.specs.declared.Row.{Row}
@@ -29,9 +27,9 @@ returns c =
     let d = w .before .before in
     let r = d .before in
     let e = r .before .before in
-    let p = tested₂ w16 (widened (r .read .result)) (d .widen-copy .result) (e .args .vx) (e .args .vy) (d .widen-copy .ensures) (e .fits .vx .sfits) (e .fits .vy .sfits) in
     w .write .ensures
-    ∙ ap (withRow (now (e .args .table)) (e .args .slot) (e .args .number)) (p ∙ ap (λ (x : Row). widened x (e .args .vx) (e .args .vy)) (r .read .ensures))
+    ∙ ap (withRow (now (e .args .table)) (e .args .slot) (e .args .number))
+    (d .widen-copy .ensures ∙ ap (λ (x : Row). widened x (e .args .drift)) (r .read .ensures))
 
 pub widen-row-spec : {M : Type 1} → statement M
 widen-row-spec = tie.close (tie.spec read-requires widen-copy-requires write-requires same-length returns)

@@ -8,13 +8,13 @@ use mathlib.Core.Bool.{true}
 use Rattle.rows.specs.Phases.{phaseOf}
 use Rattle.records.specs.Records.{nowOf, recordsOf, storeOf}
 use Rattle.records.specs.Soundness.{isRanged}
-use Rattle.store.specs.Changes.{inserted, placedIn}
+use Rattle.store.specs.Changes.{inserted, placedIn, widenedBy}
 use Rattle.records.specs.declared.Record.{Record}
 use Prim.Native.Nat.{ℕ}
 use Rattle.records.proofs.SoundLawsRanges.{last-phase, parts-ranged}
 use Rattle.records.proofs.SoundLawsKeys.{key-in-below}
 use Rattle.records.specs.Words.{words}
-use Rattle.words.specs.Words.{widenedBy, placed}
+use Rattle.words.specs.Words.{placed}
 use Rattle.words.proofs.place.Statement.{statement}
 use Rattle.words.proofs.place.Tie as tie
 

@@ -7,7 +7,7 @@ use lib.IntN.{ℤ}
 use Rattle.rows.specs.Phases.{phaseOf}
 use Rattle.rows.specs.Table.{withNewlyLiveEmpty}
 use Rattle.records.specs.Records.{recordsOf}
-use Rattle.store.specs.Changes.{moves, replaced, withSpeeds}
+use Rattle.store.specs.Changes.{moves, replaced, widenedByAll}
 use Rattle.words.specs.Words.{tableStepped}
 use Rattle.words.proofs.step_phase.Statement.{statement}
 use Rattle.words.proofs.step_phase.Tie as tie
@@ -38,7 +38,7 @@ returns c =
     let emptied = ap₂ (withNewlyLiveEmpty (a .args .table .now)) (a .pre .is-step .from-is) (a .pre .is-step .to-is) in
     record {
       store-is = m .step-records .ensures .0;
-      table-is = m .step-records .ensures .1 ∙ ap (λ (t : List ℤ). withSpeeds t anew) (e .empty-newly-live .ensures ∙ emptied);
+      table-is = m .step-records .ensures .1 ∙ ap (λ (t : List ℤ). widenedByAll t anew) (e .empty-newly-live .ensures ∙ emptied);
     }
 
 pub step-phase-spec : {M : Type 1} → statement M

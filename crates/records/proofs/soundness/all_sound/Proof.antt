@@ -43,14 +43,6 @@ is-sound-record-requires c κs =
     let s = k .before in
     (k .curve-numbers .ensures, rw (held w32 (s .args .time) (search needs)) (s .pre .1))
 
-none : (time : ℤ) → allSound time [] ≡ true
-unfolding allSound
-none time = refl
-
-more : (time : ℤ) (r : Record) (rs : List Record) → allSound time (r ∷ rs) ≡ isSoundRecord time r && allSound time rs
-unfolding allSound
-more time r rs = refl
-
 -- the entry, and the loop as seen from a test
 abbrev start : tie.At-loop Inv-loop μ-loop → tie.Start Inv-loop μ-loop
 start c = c .before .before
@@ -78,7 +70,7 @@ returns c =
     let at = looping (c .before) in
     let a = start at .args in
     let z = back w32 (a .time) in
-    failed-here (allSound z) (isSoundRecord z) (none z) (more z) (a .n) (at .loop .i) (a .words .now) (at .loop .inv .1) (omega arith)
+    failed-here (isSoundRecord z) (a .n) (at .loop .i) (a .words .now) (at .loop .inv .1) (omega arith)
     (sym (test (c .before)) ∙ not-true (c .before .is-sound-record .result) (c .if1 .taken))
     ∙ at-time (start at)
 
@@ -94,14 +86,14 @@ loop-again c =
     let a = start at .args in
     let z = back w32 (a .time) in
     let next = sym (test (c .before)) ∙ not-false (c .before .is-sound-record .result) (c .if1 .left) in
-    (omega arith, passed-here (allSound z) (isSoundRecord z) (none z) (more z) (a .n) (at .loop .i) (a .words .now) (at .loop .inv .1) (omega arith) next)
+    (omega arith, passed-here (isSoundRecord z) (a .n) (at .loop .i) (a .words .now) (at .loop .inv .1) (omega arith) next)
 
 returns-2 : tie.Need-returns-2 Inv-loop μ-loop
 returns-2 c =
     let at = c .before in
     let a = start at .args in
     let z = back w32 (a .time) in
-    passed-all (allSound z) (isSoundRecord z) (none z) (more z) (a .n) (at .loop .i) (a .words .now) (at .loop .inv .1) (omega arith) ∙ at-time (start at)
+    passed-all (isSoundRecord z) (a .n) (at .loop .i) (a .words .now) (at .loop .inv .1) (omega arith) ∙ at-time (start at)
 
 pub all-sound-spec : {M : Type 1} → statement M
 all-sound-spec =

@@ -9,11 +9,8 @@ use Prim.Native.Nat.{_≤_, _-_, _*_}
 use native.Mathlib.Omega.{arith}
 use borrow.Author.Tests.{not-true, not-false}
 use lib.IntN.{ℤ}
-use Rattle.rows.specs.Row.{holds}
-use Rattle.rows.specs.Table.{rowAt}
 use Rattle.records.specs.Records.{recordWords, recordFrom, readRecords}
-use Rattle.records.specs.Order.{slotOfKey, numberOfKey}
-use Rattle.records.specs.Soundness.{speedsInRows, allRanged}
+use Rattle.records.specs.Soundness.{inOwnRow, speedsInRows, allRanged}
 use Rattle.records.specs.declared.Record.{Record}
 use Rattle.records.proofs.SoundLawsTurns.{left, left-at-first, ranged-here, failed-here, passed-here, passed-all}
 use Rattle.records.proofs.soundness.speeds_in_rows.Statement.{statement}
@@ -42,30 +39,19 @@ is-in-row-requires c κs =
     let a = at .before .args in
     (at .before .pre .0, rw (c .read-from .ensures) (ranged-here (a .n) (at .loop .i) (a .words .now) (omega arith) (at .loop .inv .1) .0))
 
-abbrev held : List ℤ → Record → Bool
-held t r = holds (rowAt t (slotOfKey (r .key)) (numberOfKey (r .key))) (r .report .vx) (r .report .vy)
-
-none : (t : List ℤ) → speedsInRows t [] ≡ true
-unfolding speedsInRows
-none t = refl
-
-more : (t : List ℤ) (r : Record) (rs : List Record) → speedsInRows t (r ∷ rs) ≡ held t r && speedsInRows t rs
-unfolding speedsInRows
-more t r rs = refl
-
 -- the test of the record at i
 test :
     (c : tie.After-is-in-row Inv-loop μ-loop)
     → c .is-in-row .result
-    ≡ held (c .before .before .before .before .args .table .now) (recordFrom (c .before .before .before .before .args .words .now) (recordWords * c .before .before .before .loop .i))
-test c = c .is-in-row .ensures ∙ ap (held (c .before .before .before .before .args .table .now)) (c .before .read-from .ensures)
+    ≡ inOwnRow (c .before .before .before .before .args .table .now) (recordFrom (c .before .before .before .before .args .words .now) (recordWords * c .before .before .before .loop .i))
+test c = c .is-in-row .ensures ∙ ap (inOwnRow (c .before .before .before .before .args .table .now)) (c .before .read-from .ensures)
 
 returns : tie.Need-returns Inv-loop μ-loop
 returns c =
     let at = c .before .before .before .before in
     let a = at .before .args in
     let t = a .table .now in
-    failed-here (speedsInRows t) (held t) (none t) (more t) (a .n) (at .loop .i) (a .words .now) (at .loop .inv .2) (omega arith)
+    failed-here (inOwnRow t) (a .n) (at .loop .i) (a .words .now) (at .loop .inv .2) (omega arith)
     (sym (test (c .before)) ∙ not-true (c .before .is-in-row .result) (c .if1 .taken))
 
 add-i : tie.Need-add-i Inv-loop μ-loop
@@ -81,7 +67,7 @@ loop-again c =
     let t = a .table .now in (
       omega arith,
       ranged-here (a .n) (at .loop .i) (a .words .now) (omega arith) (at .loop .inv .1) .1,
-      passed-here (speedsInRows t) (held t) (none t) (more t) (a .n) (at .loop .i) (a .words .now) (at .loop .inv .2) (omega arith)
+      passed-here (inOwnRow t) (a .n) (at .loop .i) (a .words .now) (at .loop .inv .2) (omega arith)
           (sym (test (c .before)) ∙ not-false (c .before .is-in-row .result) (c .if1 .left)),
     )
 
@@ -90,7 +76,7 @@ returns-2 c =
     let at = c .before in
     let a = at .before .args in
     let t = a .table .now in
-    passed-all (speedsInRows t) (held t) (none t) (more t) (a .n) (at .loop .i) (a .words .now) (at .loop .inv .2) (omega arith)
+    passed-all (inOwnRow t) (a .n) (at .loop .i) (a .words .now) (at .loop .inv .2) (omega arith)
 
 pub speeds-in-rows-spec : {M : Type 1} → statement M
 speeds-in-rows-spec =
