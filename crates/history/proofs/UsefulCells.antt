@@ -22,9 +22,9 @@ use Rattle.rows.proofs.RowLaws.{holds-within, holds-one, bounds-valid, bounds-h
 use Rattle.methods.specs.Aims.{aimIn}
 use Rattle.methods.specs.Fair.{InOrder}
 use Rattle.methods.specs.Claims.{ValidRows}
-use Rattle.methods.proofs.Claims.{listed-is-read, choice-once}
-use Rattle.methods.proofs.ChoiceLaws.{choice-on}
-use Rattle.methods.proofs.SetLaws.{countedCells, cells-counted}
+use Rattle.methods.proofs.Claims.{listed-is-read}
+use Rattle.methods.proofs.Methods.{choice-on, choice-once}
+use Rattle.methods.proofs.Marks.{countedCells, cells-counted}
 use Rattle.ledger.specs.Machine.{Ledger, Held, placeIn, speedsPlaced, rowsIn, choiceIn, listedHeld, isUseful, usefulCells}
 use Rattle.ledger.proofs.MachineLaws.{speed-placed}
 use Rattle.asking.proofs.AskLaws.{FitAsk, fit-in-order}

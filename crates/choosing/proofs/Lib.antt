@@ -1,0 +1,5 @@
+pub mod ReachLaws
+pub mod Passes
+pub mod BoundsLaws
+pub mod MarkLaws
+pub mod ChooseLaws

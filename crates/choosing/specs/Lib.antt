@@ -1,0 +1,4 @@
+pub mod Reach
+pub mod Bounds
+pub mod Mark
+pub mod Choose
