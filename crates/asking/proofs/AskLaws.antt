@@ -28,7 +28,7 @@ use Rattle.methods.specs.Aims.{sliceOf, placedBy, heldBy}
 use Rattle.methods.specs.Fair.{InOrder}
 use Rattle.methods.specs.Slots.{rowsOfSlot}
 use Rattle.methods.specs.Slices.{IsSlice}
-use Rattle.choosing.specs.Reach.{IsAsk}
+use Rattle.reaching.specs.Reaching.{IsAsk}
 use Rattle.methods.specs.Claims.{ValidRows}
 use Rattle.methods.proofs.Claims.{listed-is-read}
 use Rattle.methods.proofs.Marks.{mark-of-cell}

@@ -13,7 +13,6 @@ ghost use Rattle.ledger.specs.declared.Answer.the-variants.{Listed};
 ghost use Rattle.asking.specs.Asking.{phasesNow, GivesList};
 ghost use Rattle.asking.specs.Counted.{CanAsk, CanAskAll, CanAskIn, CanAskFirst, settledByRoom, CanChooseIn, CanReadIn, ReadIn};
 ghost use Rattle.asking.specs.Counted.{SmallCounts, CountedTogether, CountedIn, CountedOver};
-use choosing::reach::slice_of;
 use grid::Query;
 use ledger::Answer;
 use ledger::Ask;
@@ -74,7 +73,7 @@ fn choose_in(table: &[i16], p: usize, ask: Ask, marks: &mut [u8; 1024]) -> usize
     ensures { λ r. ⌜ ChosenBy (up (ask .method)) (now (table .entry)) (slotOf p) (aimIn p (ask .query)) (now (marks .exit)) r ⌝ }
 {
     let slot = rows::slot_of(p);
-    let slice = slice_of(ask.query, p);
+    let slice = reaching::slice_of(ask.query, p);
     let number = number_of(ask);
     choosing::choose::choose(table, slot, number, slice, marks)
 }

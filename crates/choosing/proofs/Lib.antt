@@ -1,4 +1,3 @@
-pub mod ReachLaws
 pub mod Passes
 pub mod BoundsLaws
 pub mod MarkLaws

@@ -12,7 +12,7 @@ use Rattle.methods.specs.Slots.{rowsOfSlot}
 use Rattle.methods.specs.Marks.{marksOf}
 use Rattle.methods.specs.declared.Block.{Block}
 use Rattle.methods.specs.declared.Slice.{Slice}
-use Rattle.choosing.specs.Reach.{IsAsk}
+use Rattle.reaching.specs.Reaching.{IsAsk}
 use Rattle.choosing.specs.Bounds.{IsSlot, BlockOnGrid}
 use Rattle.choosing.specs.Mark.{noMarks, CanSearch}
 use Rattle.choosing.specs.declared.FoundBlock.{FoundBlock}

@@ -1,4 +1,3 @@
-pub mod Reach
 pub mod Bounds
 pub mod Mark
 pub mod Choose

@@ -12,7 +12,7 @@ use Rattle.grid.specs.declared.Cell.{Cell}
 use Rattle.methods.specs.Marks.{withCells}
 use Rattle.methods.specs.declared.Block.{Block}
 use Rattle.methods.specs.declared.Slice.{Slice}
-use Rattle.choosing.specs.Reach.{IsAsk}
+use Rattle.reaching.specs.Reaching.{IsAsk}
 use Rattle.choosing.specs.Bounds.{IsSlot, BlockOnGrid}
 
 -- no mark is set

@@ -6,7 +6,7 @@ ghost use Rattle.methods.specs.Methods.{cellsFound, unlessMissing, expandedBloc
 ghost use Rattle.methods.specs.Slots.{rowsOfSlot};
 ghost use Rattle.choosing.specs.Choose.{FoundIs, SearchIs, ChosenBy, CanChoose, CanChooseWithin};
 ghost use Rattle.choosing.specs.Mark.{Marked, CanMarkBlock, CanSearch};
-ghost use Rattle.choosing.specs.Reach.{CanExpand};
+ghost use Rattle.reaching.specs.Reaching.{CanExpand};
 use crate::FoundBlock;
 use crate::Searched;
 use crate::bounds::block_bounds;
@@ -14,10 +14,10 @@ use crate::bounds::phase_bounds;
 use crate::mark::clear;
 use crate::mark::mark_block;
 use crate::mark::mark_reached;
-use crate::reach::block_of;
-use crate::reach::expanded;
 use methods::Block;
 use methods::Slice;
+use reaching::block_of;
+use reaching::expanded;
 use rows::Row;
 
 // The most rounds of the iterative method: more than columns and rows of any block allow.

@@ -3,7 +3,6 @@
 pub mod bounds;
 pub mod choose;
 pub mod mark;
-pub mod reach;
 
 use methods::Block;
 

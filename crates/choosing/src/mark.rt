@@ -10,10 +10,10 @@ ghost use Rattle.methods.specs.Slots.{rowsOfSlot};
 ghost use Rattle.methods.specs.Marks.{withCells};
 ghost use Rattle.choosing.specs.Mark.{noMarks, Marked, CanMarkBlock, CanMarkRow, CanMarkCell, CanMarkReached, CanMarkReachedInRow, CanTest, CanMarkIfReached};
 use crate::bounds::row_of_cell;
-use crate::reach::cell_meets;
 use grid::Cell;
 use methods::Block;
 use methods::Slice;
+use reaching::cell_meets;
 
 // Every mark taken away.
 pub fn clear(marks: &mut [u8])

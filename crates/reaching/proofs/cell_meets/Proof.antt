@@ -1,11 +1,11 @@
--- `choosing::reach::cell_meets` meets its contract: both axes' tests.
+-- `reaching::cell_meets` meets its contract: both axes' tests.
 -- Assumes nothing.
 use Rattle.ints.proofs.Machine.{both, neither}
 use Rattle.methods.specs.Reach.{movedCellMeets}
-use Rattle.choosing.proofs.ReachLaws.{small-x, small-y, axis-back, meets-called}
+use Rattle.reaching.proofs.ReachingLaws.{small-x, small-y, axis-back, meets-called}
 use borrow.Author.Needs.{needs}
-use Rattle.choosing.proofs.reach.cell_meets.Statement.{statement}
-use Rattle.choosing.proofs.reach.cell_meets.Tie as tie
+use Rattle.reaching.proofs.cell_meets.Statement.{statement}
+use Rattle.reaching.proofs.cell_meets.Tie as tie
 
 moved-meets-requires : tie.Need-moved-meets-requires
 moved-meets-requires c κs = search (needs, axis-back, small-x)

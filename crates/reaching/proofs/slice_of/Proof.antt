@@ -1,4 +1,4 @@
--- `choosing::reach::slice_of` meets its contract: both times are small, so their difference fits.
+-- `reaching::slice_of` meets its contract: both times are small, so their difference fits.
 -- Assumes nothing.
 use mathlib.Core.Path.{_≡_}
 use borrow.Author.Needs.{needs}
@@ -6,9 +6,9 @@ use mir.Syntax.{w64}
 use mir.Facts.{toZ-ofZ}
 use Rattle.ints.proofs.Machine.{back, got}
 use Rattle.rows.specs.Phases.{referenceTime}
-use Rattle.choosing.proofs.ReachLaws.{since-fits}
-use Rattle.choosing.proofs.reach.slice_of.Statement.{statement}
-use Rattle.choosing.proofs.reach.slice_of.Tie as tie
+use Rattle.reaching.proofs.ReachingLaws.{since-fits}
+use Rattle.reaching.proofs.slice_of.Statement.{statement}
+use Rattle.reaching.proofs.slice_of.Tie as tie
 
 wide-time-requires : tie.Need-wide-time-requires
 wide-time-requires c κs = search needs

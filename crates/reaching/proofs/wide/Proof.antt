@@ -1,9 +1,9 @@
--- `choosing::reach::wide` meets its contract: every 16-bit number fits 64 bits.
+-- `reaching::wide` meets its contract: every 16-bit number fits 64 bits.
 -- Assumes nothing.
 use mir.Syntax.{w16, w64}
 use Rattle.ints.proofs.Machine.{wide-fits, wide-back}
-use Rattle.choosing.proofs.reach.wide.Statement.{statement}
-use Rattle.choosing.proofs.reach.wide.Tie as tie
+use Rattle.reaching.proofs.wide.Statement.{statement}
+use Rattle.reaching.proofs.wide.Tie as tie
 
 cast-result : tie.Need-cast-result
 cast-result c = search (wide-fits w16 w64 tt)

@@ -1,10 +1,10 @@
--- `choosing::reach::expanded` meets its contract: each axis is expanded by its own speeds.
+-- `reaching::expanded` meets its contract: each axis is expanded by its own speeds.
 -- Assumes nothing.
 use Rattle.methods.specs.Reach.{expandedRect}
-use Rattle.choosing.proofs.ReachLaws.{same-rect, small-x, small-y, axis-back, expanded-called}
+use Rattle.reaching.proofs.ReachingLaws.{same-rect, small-x, small-y, axis-back, expanded-called}
 use borrow.Author.Needs.{needs}
-use Rattle.choosing.proofs.reach.expanded.Statement.{statement}
-use Rattle.choosing.proofs.reach.expanded.Tie as tie
+use Rattle.reaching.proofs.expanded.Statement.{statement}
+use Rattle.reaching.proofs.expanded.Tie as tie
 
 expand-range-requires : tie.Need-expand-range-requires
 expand-range-requires c κs = search (needs, axis-back, small-x)

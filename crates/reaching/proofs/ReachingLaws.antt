@@ -26,7 +26,7 @@ use Rattle.rows.specs.declared.Row.{Row}
 use Rattle.rows.proofs.RowLaws.{Ranged, valid-cases}
 use Rattle.methods.specs.Reach.{expandedRange, movedSpan, meets}
 use Rattle.methods.specs.Slices.{askBefore, latest}
-use Rattle.choosing.specs.Reach.{IsAsk, SmallAxis, CanSee}
+use Rattle.reaching.specs.Reaching.{IsAsk, SmallAxis, CanSee}
 use Rattle.methods.specs.declared.Slice.{Slice}
 use Rattle.methods.proofs.Axis.{expanded-is, meets-expanded}
 

@@ -1,13 +1,13 @@
--- `choosing::reach::expand_range` meets its contract: each end is where a float was d seconds before, at the least or the greatest speed.
+-- `reaching::expand_range` meets its contract: each end is where a float was d seconds before, at the least or the greatest speed.
 -- Assumes nothing.
 use mathlib.Core.Path.{_∙_}
 use mathlib.Core.Bool.{true, false}
 use mir.Syntax.{w64}
 use Rattle.ints.proofs.Machine.{sign-taken}
-use Rattle.choosing.proofs.ReachLaws.{same-range, expanded-forward, expanded-backward, small-back, small-wide, before-is}
+use Rattle.reaching.proofs.ReachingLaws.{same-range, expanded-forward, expanded-backward, small-back, small-wide, before-is}
 use borrow.Author.Needs.{needs}
-use Rattle.choosing.proofs.reach.expand_range.Statement.{statement}
-use Rattle.choosing.proofs.reach.expand_range.Tie as tie
+use Rattle.reaching.proofs.expand_range.Statement.{statement}
+use Rattle.reaching.proofs.expand_range.Tie as tie
 
 wide-requires : tie.Need-wide-requires
 wide-requires c κs = search needs

@@ -1,9 +1,9 @@
--- `choosing::reach::ends_from` meets its contract: the last column has no high end, any other ends 262,143 after its start.
+-- `reaching::ends_from` meets its contract: the last column has no high end, any other ends 262,143 after its start.
 -- Assumes nothing.
-use Rattle.choosing.proofs.ReachLaws.{no-high-end, high-end}
+use Rattle.reaching.proofs.ReachingLaws.{no-high-end, high-end}
 use borrow.Author.Needs.{needs}
-use Rattle.choosing.proofs.reach.ends_from.Statement.{statement}
-use Rattle.choosing.proofs.reach.ends_from.Tie as tie
+use Rattle.reaching.proofs.ends_from.Statement.{statement}
+use Rattle.reaching.proofs.ends_from.Tie as tie
 
 sub-if1 : tie.Need-sub-if1
 sub-if1 c = search needs

@@ -6,7 +6,7 @@ ghost use Rattle.grid.specs.Units.{side};
 ghost use Rattle.grid.specs.Places.{cellSpan, notBelow, notAbove};
 ghost use Rattle.methods.specs.Reach.{expandedRange, expandedRect, blockOf, movedSpan, meets, movedCellMeets};
 ghost use Rattle.methods.specs.Aims.{sliceOf};
-ghost use Rattle.choosing.specs.Reach.{CanSee, CanExpand, CanMeet, SmallMotion, SmallAxis, CanMoveColumn};
+ghost use Rattle.reaching.specs.Reaching.{CanSee, CanExpand, CanMeet, SmallMotion, SmallAxis, CanMoveColumn};
 use grid::Cell;
 use grid::Query;
 use grid::Range;

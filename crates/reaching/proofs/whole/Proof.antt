@@ -1,12 +1,12 @@
--- `choosing::reach::whole` meets its contract: the number is small.
+-- `reaching::whole` meets its contract: the number is small.
 -- Assumes nothing.
 use native.Mathlib.Omega.{arith}
 use lib.IntN.{pos}
 use mir.Syntax.{w64}
 use Rattle.ints.proofs.Machine.{held}
 use borrow.Author.Needs.{needs}
-use Rattle.choosing.proofs.reach.whole.Statement.{statement}
-use Rattle.choosing.proofs.reach.whole.Tie as tie
+use Rattle.reaching.proofs.whole.Statement.{statement}
+use Rattle.reaching.proofs.whole.Tie as tie
 
 cast-result : tie.Need-cast-result
 cast-result c = search needs

@@ -1,9 +1,9 @@
--- `choosing::reach::starts_by` meets its contract: the first column has no low end, any other starts at 262,144 times its number.
+-- `reaching::starts_by` meets its contract: the first column has no low end, any other starts at 262,144 times its number.
 -- Assumes nothing.
-use Rattle.choosing.proofs.ReachLaws.{no-low-end, low-end}
+use Rattle.reaching.proofs.ReachingLaws.{no-low-end, low-end}
 use borrow.Author.Needs.{needs}
-use Rattle.choosing.proofs.reach.starts_by.Statement.{statement}
-use Rattle.choosing.proofs.reach.starts_by.Tie as tie
+use Rattle.reaching.proofs.starts_by.Statement.{statement}
+use Rattle.reaching.proofs.starts_by.Tie as tie
 
 returns : tie.Need-returns
 returns c = search no-low-end

@@ -1,4 +1,4 @@
--- `choosing::reach::block_of` meets its contract: the columns and rows of the two corners.
+-- `reaching::block_of` meets its contract: the columns and rows of the two corners.
 -- Assumes nothing.
 use mir.Syntax.{w64}
 use Rattle.ints.proofs.Machine.{tested₁}
@@ -6,8 +6,8 @@ use Rattle.grid.specs.Places.{columnOf, rowOf}
 use Rattle.methods.specs.Reach.{blockOf}
 use Rattle.methods.proofs.Nesting.{same-block}
 use borrow.Author.Needs.{needs}
-use Rattle.choosing.proofs.reach.block_of.Statement.{statement}
-use Rattle.choosing.proofs.reach.block_of.Tie as tie
+use Rattle.reaching.proofs.block_of.Statement.{statement}
+use Rattle.reaching.proofs.block_of.Tie as tie
 
 column-of-requires : tie.Need-column-of-requires
 column-of-requires c κs = search needs

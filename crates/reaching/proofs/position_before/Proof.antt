@@ -1,4 +1,4 @@
--- `choosing::reach::position_before` meets its contract: the numbers are small, so neither the product nor the difference wraps.
+-- `reaching::position_before` meets its contract: the numbers are small, so neither the product nor the difference wraps.
 -- Assumes nothing.
 use native.Mathlib.Omega.{arith}
 use lib.IntN.{_-ℤ_, _*ℤ_}
@@ -7,8 +7,8 @@ use mir.Val.{SFits}
 use mir.Facts.{toZ-ofZ}
 use Rattle.ints.proofs.Parts.{abs, sub, mul-small}
 use Rattle.ints.proofs.Machine.{fits}
-use Rattle.choosing.proofs.reach.position_before.Statement.{statement}
-use Rattle.choosing.proofs.reach.position_before.Tie as tie
+use Rattle.reaching.proofs.position_before.Statement.{statement}
+use Rattle.reaching.proofs.position_before.Tie as tie
 
 product : (c : tie.Start) → SFits w64 (c .args .v *ℤ c .args .d)
 product c = fits (omega (arith, mul-small (c .args .v) (c .args .d) _ _ (c .pre .small-speed) (c .pre .small-d)))

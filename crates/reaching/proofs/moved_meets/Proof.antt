@@ -1,9 +1,9 @@
--- `choosing::reach::moved_meets` meets its contract: a moved column meets a range exactly when it meets the expanded range where it is.
+-- `reaching::moved_meets` meets its contract: a moved column meets a range exactly when it meets the expanded range where it is.
 -- Assumes nothing.
-use Rattle.choosing.proofs.ReachLaws.{expanded-called, meets-both, meets-neither}
+use Rattle.reaching.proofs.ReachingLaws.{expanded-called, meets-both, meets-neither}
 use borrow.Author.Needs.{needs}
-use Rattle.choosing.proofs.reach.moved_meets.Statement.{statement}
-use Rattle.choosing.proofs.reach.moved_meets.Tie as tie
+use Rattle.reaching.proofs.moved_meets.Statement.{statement}
+use Rattle.reaching.proofs.moved_meets.Tie as tie
 
 expand-range-requires : tie.Need-expand-range-requires
 expand-range-requires c κs = search needs
