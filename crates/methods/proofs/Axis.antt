@@ -13,7 +13,7 @@ use Rattle.ints.specs.Whole.{between}
 use Rattle.ints.proofs.Parts.{up, down, signed, add, sub, mul, one-part, mul-keeps, mul-turns, true-false}
 use Rattle.ints.proofs.Least.{le-refl}
 use Rattle.ints.proofs.Truth.{same-truth, and-true, and-left, and-right}
-use Rattle.grid.specs.Units.{cellSize}
+use Rattle.grid.specs.Units.{side, cellSize}
 use Rattle.grid.specs.Places.{End, Span, endless, at, endAt, columnOf, cellSpan, inSpan, notBelow, notAbove, positionAfter}
 use Rattle.grid.proofs.Places.{column-is}
 use Rattle.methods.specs.Reach.{expandedRange, movedSpan, forward, backward, meets}
@@ -177,7 +177,7 @@ data Wide : End → End → Type 0 where
 
 cell-wide : (i : ℕ) → Wide (cellSpan i .low) (cellSpan i .high)
 unfolding cellSpan
-cell-wide i = go (eqb i 0) (eqb i 31)
+cell-wide i = go (eqb i 0) (eqb i (side - 1))
   where
     go : (a b : Bool) → Wide (endAt a (pos (cellSize * i))) (endAt b (pos (cellSize * i + (cellSize - 1))))
     go true b = no-low

@@ -10,7 +10,7 @@ use lib.IntN.{ℤ, pos, negℤ, natAbs}
 use lib.Signed.{leZ}
 use Rattle.ints.proofs.Parts.{true-false, signed, abs, one-part}
 use Rattle.ints.proofs.Truth.{and-true, and-left, and-right}
-use Rattle.grid.specs.Units.{cellSize}
+use Rattle.grid.specs.Units.{cellSize, askBefore}
 use Rattle.grid.specs.Places.{cellSpan, OnGrid}
 use Rattle.grid.specs.Reports.{inRect}
 use Rattle.grid.specs.declared.Cell.{Cell}
@@ -21,7 +21,7 @@ use Rattle.methods.specs.Reach.{movedSpan, meets, movedCellMeets}
 use Rattle.methods.specs.Aims.{Aim, sliceAim, Placed, ownCell, heldBy, inSlice}
 use Rattle.methods.specs.Fair.{Sees}
 use Rattle.methods.specs.Methods.{Rows, isReached}
-use Rattle.methods.specs.Slices.{askBefore, latest, IsSlice}
+use Rattle.methods.specs.Slices.{latest, IsSlice}
 use Rattle.methods.specs.Claims.{ValidRows, Reaches}
 use Rattle.methods.specs.declared.Slice.{Slice}
 use Rattle.methods.proofs.Axis.{meets-leads}

@@ -42,7 +42,7 @@ cell-of-mark cs n h =
 
 -- ---- counting
 
-one-more : (g : Cell → Bool) (c : Cell) (cs : List Cell) → bit (g c) + length (passing g cs) ≡ length (passing g (c ∷ cs))
+pub one-more : (g : Cell → Bool) (c : Cell) (cs : List Cell) → bit (g c) + length (passing g cs) ≡ length (passing g (c ∷ cs))
 unfolding passing
 one-more g c cs = go (g c)
   where

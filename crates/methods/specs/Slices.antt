@@ -1,22 +1,16 @@
--- The timeslices that document 01 allows: how far from now an ask may lie, and so how far from the reference time of a live phase.
+-- The timeslices that document 01 allows: an ask lies near now, and so not far from the reference time of a live phase.
 -- Assumes nothing.
 use mathlib.Core.Path.{_≡_}
 use mathlib.Core.Bool.{true}
 use Prim.Native.Nat.{ℕ, _+_, _-_, _*_}
 use lib.IntN.{pos, negℤ}
 use lib.Signed.{leZ}
+use Rattle.grid.specs.Units.{askBefore, askAfter}
 use Rattle.rows.specs.Phases.{phaseSeconds, slots}
 use Rattle.methods.specs.Fair.{InOrder}
 use Rattle.methods.specs.declared.Slice.{Slice}
 
--- an ask lies from so many seconds before now to so many after it
-abbrev pub askBefore : ℕ
-askBefore = 3600
-
-abbrev pub askAfter : ℕ
-askAfter = 7200
-
--- now is less than three phases after the reference time of a live phase
+-- the greatest d: now is less than three phases after the reference time of a live phase
 abbrev pub latest : ℕ
 latest = slots * phaseSeconds - 1 + askAfter
 

@@ -14,7 +14,7 @@ use mir.Val.{hbits, SFits}
 use Rattle.ints.proofs.Parts.{signed, abs, one-part, sub, true-false}
 use Rattle.ints.proofs.Machine.{back, fits, held, both, neither, tested₁}
 use Rattle.ints.proofs.Truth.{and-left, and-right}
-use Rattle.grid.specs.Units.{side, cellSize, lastPosition, speedLimit, lastTime}
+use Rattle.grid.specs.Units.{side, cellSize, lastPosition, speedLimit, lastTime, askBefore}
 use Rattle.grid.specs.Places.{cellSpan, notBelow, notAbove}
 use Rattle.grid.specs.Reports.{isPosition}
 use Rattle.grid.specs.declared.Query.{Query}
@@ -25,7 +25,7 @@ use Rattle.rows.specs.Phases.{phaseSeconds, referenceTime, sinceReference}
 use Rattle.rows.specs.declared.Row.{Row}
 use Rattle.rows.proofs.RowLaws.{Ranged, valid-cases}
 use Rattle.methods.specs.Reach.{expandedRange, movedSpan, meets}
-use Rattle.methods.specs.Slices.{askBefore, latest}
+use Rattle.methods.specs.Slices.{latest}
 use Rattle.reaching.specs.Reaching.{IsAsk, SmallAxis, CanSee}
 use Rattle.methods.specs.declared.Slice.{Slice}
 use Rattle.methods.proofs.Axis.{expanded-is, meets-expanded}
@@ -60,7 +60,13 @@ pub no-high-end : (i : ℕ) (z : ℤ) → i ≡ side - 1 → true ≡ notAbove (
 unfolding cellSpan
 no-high-end i z e = rw (eq-eqb i (side - 1) e)
 
-pub high-end : (i : ℕ) (r z : ℤ) → (i ≡ side - 1 → ⊥) → mag r < 2 ^ hbits w64 → r ≡ pos (cellSize * i + (cellSize - 1)) → mag z < 2 ^ hbits w64 → leZ (back w64 z) (back w64 r) ≡ notAbove (cellSpan i .high) z
+pub high-end :
+    (i : ℕ) (r z : ℤ)
+    → (i ≡ side - 1 → ⊥)
+    → mag r < 2 ^ hbits w64
+    → r ≡ pos (cellSize * i + (cellSize - 1))
+    → mag z < 2 ^ hbits w64
+    → leZ (back w64 z) (back w64 r) ≡ notAbove (cellSpan i .high) z
 unfolding cellSpan
 high-end i r z n h e k = rw (ne-eqb i (side - 1) n) (ap₂ leZ (held w64 z k) (held w64 r h ∙ e))
 

@@ -65,23 +65,23 @@ pub fn slice_of(query: Query, p: usize) -> Slice
 }
 
 // The rectangle expanded by bounds.
-pub fn expanded(slice: Slice, bounds: Row) -> Rect
-    requires { ⌜ CanExpand slice bounds ⌝ }
-    ensures { λ r. ⌜ r ≡ expandedRect slice bounds ⌝ }
+pub fn expanded(s: Slice, bounds: Row) -> Rect
+    requires { ⌜ CanExpand s bounds ⌝ }
+    ensures { λ r. ⌜ r ≡ expandedRect s bounds ⌝ }
 {
     Rect {
-        x: expand_range(slice.rect.x, bounds.least_vx, bounds.greatest_vx, slice.d),
-        y: expand_range(slice.rect.y, bounds.least_vy, bounds.greatest_vy, slice.d),
+        x: expand_range(s.rect.x, bounds.least_vx, bounds.greatest_vx, s.d),
+        y: expand_range(s.rect.y, bounds.least_vy, bounds.greatest_vy, s.d),
     }
 }
 
 // Whether a cell, moved by its row's speeds, meets the rectangle.
-pub fn cell_meets(slice: Slice, c: Cell, row: Row) -> bool
-    requires { ⌜ CanMeet slice c row ⌝ }
-    ensures { λ r. ⌜ r ≡ movedCellMeets slice c row ⌝ }
+pub fn cell_meets(s: Slice, c: Cell, row: Row) -> bool
+    requires { ⌜ CanMeet s c row ⌝ }
+    ensures { λ r. ⌜ r ≡ movedCellMeets s c row ⌝ }
 {
-    moved_meets(c.column, row.least_vx, row.greatest_vx, slice.rect.x, slice.d)
-        && moved_meets(c.row, row.least_vy, row.greatest_vy, slice.rect.y, slice.d)
+    moved_meets(c.column, row.least_vx, row.greatest_vx, s.rect.x, s.d)
+        && moved_meets(c.row, row.least_vy, row.greatest_vy, s.rect.y, s.d)
 }
 
 // Every cell from the column and row of the low corner to those of the high corner.
