@@ -1,7 +1,7 @@
 -- What the code of mark relies on: marking goes list by list, and a loop that marks what is left of a list marks the whole list.
 -- Assumes nothing.
 use mathlib.Core.Path.{_≡_, refl, sym, ap, _∙_}
-use mathlib.Core.Bool.{true, false}
+use mathlib.Core.Bool.{Bool, true, false}
 use mathlib.Core.List.{List, [], _∷_, _++_}
 use mathlib.Core.Logic.{dite}
 use Prim.Native.Nat.{ℕ, _+_, _≤_, _<_}
@@ -95,13 +95,14 @@ module _ (rows : Rows) (aim : Aim) where
   unfolding passing
   reached-rows-none b row h = rw (rows-none b row h)
 
-  pub reached-one : (c : Cell) → isReached rows aim c ≡ true → reached rows aim (c ∷ []) ≡ c ∷ []
+  -- by what a test of the cell gave back
+  pub reached-one : (c : Cell) {r : Bool} → r ≡ isReached rows aim c → r ≡ true → reached rows aim (c ∷ []) ≡ c ∷ []
   unfolding passing
-  reached-one c e = rw e
+  reached-one c is e = let t : isReached rows aim c ≡ true = sym is ∙ e in rw t
 
-  pub reached-not : (c : Cell) → isReached rows aim c ≡ false → reached rows aim (c ∷ []) ≡ []
+  pub reached-not : (c : Cell) {r : Bool} → r ≡ isReached rows aim c → r ≡ false → reached rows aim (c ∷ []) ≡ []
   unfolding passing
-  reached-not c e = rw e
+  reached-not c is e = let t : isReached rows aim c ≡ false = sym is ∙ e in rw t
 
   pub empty-not-reached : (c : Cell) → isEmpty (rows c) ≡ true → false ≡ isReached rows aim c
   empty-not-reached c e = rw e

@@ -1,5 +1,4 @@
 // The four methods, each by its number, over the rows of one slot of a lent table.
-ghost use mathlib.Core.Path.{_≡_};
 ghost use Rattle.rows.specs.Row.{emptyRow};
 ghost use Rattle.methods.specs.Aims.{sliceAim};
 ghost use Rattle.methods.specs.Methods.{cellsFound, unlessMissing, expandedBlock, iterated, mostRounds};

@@ -1,7 +1,7 @@
 -- What the code of reach relies on: both signs of d as one formula with least and greatest exchanged, the ends of a column as they are tested,
 -- and numbers of an ask and of a valid row are small.
 -- Assumes nothing.
-use mathlib.Core.Path.{_≡_, refl, sym, ap, ap₂, _∙_}
+use mathlib.Core.Path.{_≡_, sym, ap, ap₂, _∙_}
 use mathlib.Core.Bool.{Bool, true, false, _&&_}
 use mathlib.Core.Logic.{⊎-elim}
 use Prim.Native.Nat.{ℕ, suc, _+_, _-_, _*_, _≤_, _<_, _^_}
