@@ -26,10 +26,12 @@ use Rattle.rows.proofs.PhaseLaws.{phase-is, live-range, same-slot, slot-on, lis
 use Rattle.rows.proofs.TableLaws.{valid-row-at}
 use Rattle.methods.specs.Aims.{sliceOf, placedBy, heldBy}
 use Rattle.methods.specs.Fair.{InOrder}
-use Rattle.methods.specs.Chosen.{rowsOfSlot, IsSlice, IsAsk}
+use Rattle.methods.specs.Slots.{rowsOfSlot}
+use Rattle.methods.specs.Slices.{IsSlice}
+use Rattle.reaching.specs.Reaching.{IsAsk}
 use Rattle.methods.specs.Claims.{ValidRows}
 use Rattle.methods.proofs.Claims.{listed-is-read}
-use Rattle.methods.proofs.SetLaws.{mark-of-cell}
+use Rattle.methods.proofs.Marks.{mark-of-cell}
 use Rattle.records.specs.Words.{Words, timeIn, recordsIn}
 use Rattle.records.specs.Order.{slotOfKey, numberOfKey, phaseOfKey}
 use Rattle.records.specs.Soundness.{inOwnRow}

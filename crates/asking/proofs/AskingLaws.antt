@@ -20,7 +20,8 @@ use Rattle.rows.specs.declared.Row.{Row}
 use Rattle.rows.proofs.PhaseLaws.{slot-on, live-range}
 use Rattle.methods.specs.Aims.{Aim, aimIn}
 use Rattle.methods.specs.Methods.{Rows, Found, missing, found, boundsIn, naiveBlock, iterated, iterativeSearch, choice}
-use Rattle.methods.specs.Chosen.{ChosenBy, rowsOfSlot}
+use Rattle.methods.specs.Slots.{rowsOfSlot}
+use Rattle.choosing.specs.Choose.{ChosenBy}
 use Rattle.methods.specs.declared.Block.{Block}
 use Rattle.methods.proofs.Nesting.{next}
 use Rattle.methods.proofs.Rounds.{none-is, same-is, onward-is}
@@ -65,7 +66,7 @@ module _ (w : Words) (ask : Ask) (can : CanAsk w ask) where
 
   pub can-choose : (p : ℕ) → isLive (phaseOf (timeIn w)) p ≡ true → CanChooseIn (w .table) ask p
   can-choose p live = record {
-    slot = record { whole-table = parts .table-long; valid-rows = parts .valid; one-of-three = slot-on p };
+    slot = record { has-slot = record { whole-table = parts .table-long; one-of-three = slot-on p }; valid-rows = parts .valid };
     can-see = record { is-time = fit .is-time; small-phase = small-phase p live };
     is-ask = asked-in (timeIn w) (ask .query) fit (parts .store .time) p live;
     good-method = good-method ask (can .good-numbers);

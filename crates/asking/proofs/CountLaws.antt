@@ -11,10 +11,9 @@ use Rattle.grid.specs.Units.{cells}
 use Rattle.rows.specs.Phases.{phaseOf, livePhases, slotOf}
 use Rattle.rows.proofs.PhaseLaws.{listed-live}
 use Rattle.methods.specs.Aims.{aimIn}
-use Rattle.methods.specs.Chosen.{rowsOfSlot}
-use Rattle.methods.proofs.Claims.{choice-once}
-use Rattle.methods.proofs.ChoiceLaws.{choice-on}
-use Rattle.methods.proofs.SetLaws.{marks-counted}
+use Rattle.methods.specs.Slots.{rowsOfSlot}
+use Rattle.methods.proofs.Methods.{choice-on, choice-once}
+use Rattle.methods.proofs.Marks.{marks-counted}
 use Rattle.ints.specs.Whole.{up}
 use Rattle.records.specs.Words.{Words, timeIn, recordsIn}
 use Rattle.ledger.specs.declared.Ask.{Ask}

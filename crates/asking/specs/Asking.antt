@@ -11,7 +11,8 @@ use Rattle.grid.specs.Reports.{isListed}
 use Rattle.rows.specs.Phases.{phaseOf, livePhases, slotOf}
 use Rattle.methods.specs.Aims.{aimIn}
 use Rattle.methods.specs.Methods.{Choice, choice}
-use Rattle.methods.specs.Chosen.{rowsOfSlot, marksOf}
+use Rattle.methods.specs.Slots.{rowsOfSlot}
+use Rattle.methods.specs.Marks.{marksOf}
 use Rattle.records.specs.Words.{Words, timeIn, recordsIn}
 use Rattle.records.specs.declared.Record.{Record}
 use Rattle.reading.specs.Reading.{listedIn, cellsIn, usefulIn, withIds, rising}

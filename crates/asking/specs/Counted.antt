@@ -15,8 +15,8 @@ use Rattle.grid.specs.Units.{cells, lastId}
 use Rattle.grid.specs.declared.Query.{Query}
 use Rattle.rows.specs.Phases.{phaseOf, isLive, slotOf}
 use Rattle.methods.specs.Aims.{sliceOf}
-use Rattle.methods.specs.Chosen.{IsSlot, IsAsk}
-use Rattle.methods.specs.Given.{CanSee}
+use Rattle.choosing.specs.Bounds.{IsSlot}
+use Rattle.reaching.specs.Reaching.{IsAsk, CanSee}
 use Rattle.records.specs.Soundness.{IsStore}
 use Rattle.records.specs.Words.{Words, timeIn, areSound}
 use Rattle.reading.specs.Reading.{cellsIn, listedIn, usefulIn, withIds, ReadingOf, SmallReading, ReadTogether}

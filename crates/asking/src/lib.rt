@@ -6,7 +6,7 @@ ghost use lib.IntN.{pos};
 ghost use Rattle.ints.specs.Whole.{up, between};
 ghost use Rattle.rows.specs.Phases.{slotOf};
 ghost use Rattle.methods.specs.Aims.{aimIn};
-ghost use Rattle.methods.specs.Chosen.{ChosenBy};
+ghost use Rattle.choosing.specs.Choose.{ChosenBy};
 ghost use Rattle.records.specs.Records.{recordsOf};
 ghost use Rattle.records.specs.Words.{words};
 ghost use Rattle.ledger.specs.declared.Answer.the-variants.{Listed};
@@ -17,7 +17,6 @@ use grid::Query;
 use ledger::Answer;
 use ledger::Ask;
 use ledger::Refusal;
-use methods::Slice;
 use reading::Reading;
 
 // What asking in a phase, or in several, gives back: what was read there, and the rounds of choosing. How many cells were read is only in the reading.
@@ -74,9 +73,9 @@ fn choose_in(table: &[i16], p: usize, ask: Ask, marks: &mut [u8; 1024]) -> usize
     ensures { λ r. ⌜ ChosenBy (up (ask .method)) (now (table .entry)) (slotOf p) (aimIn p (ask .query)) (now (marks .exit)) r ⌝ }
 {
     let slot = rows::slot_of(p);
-    let slice = Slice::of(ask.query, p);
+    let slice = reaching::slice_of(ask.query, p);
     let number = number_of(ask);
-    methods::choose::choose(table, slot, number, slice, marks)
+    choosing::choose::choose(table, slot, number, slice, marks)
 }
 
 // Any set of cells of a live phase read.

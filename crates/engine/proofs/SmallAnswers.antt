@@ -13,7 +13,7 @@ use Rattle.grid.specs.Units.{cells, capacity}
 use Rattle.grid.specs.Reports.{isListed}
 use Rattle.rows.specs.Phases.{phaseOf, livePhases, slotOf}
 use Rattle.methods.specs.Aims.{aimIn}
-use Rattle.methods.specs.Chosen.{rowsOfSlot}
+use Rattle.methods.specs.Slots.{rowsOfSlot}
 use Rattle.records.specs.Words.{Words, timeIn, recordsIn, areSound}
 use Rattle.reading.specs.Reading.{cellsIn, usefulIn}
 use Rattle.reading.proofs.ReadingLaws.{cells-few}

@@ -31,6 +31,13 @@ speedLimit = 500
 abbrev pub lastTime : ℕ
 lastTime = 999999999
 
+-- how far before now and after it an ask may lie, in seconds
+abbrev pub askBefore : ℕ
+askBefore = 3600
+
+abbrev pub askAfter : ℕ
+askAfter = 7200
+
 -- the last id
 abbrev pub lastId : ℕ
 lastId = 65535

@@ -24,8 +24,8 @@ use Rattle.rows.specs.Phases.{phaseOf, isLive, livePhases, slotOf}
 use Rattle.rows.proofs.PhaseLaws.{listed-live}
 use Rattle.methods.specs.Methods.{Choice}
 use Rattle.methods.specs.Aims.{aimIn}
-use Rattle.methods.specs.Chosen.{rowsOfSlot}
-use Rattle.methods.proofs.ChoiceLaws.{choice-same}
+use Rattle.methods.specs.Slots.{rowsOfSlot}
+use Rattle.methods.proofs.Methods.{choice-same}
 use Rattle.records.specs.Words.{Words, timeIn}
 use Rattle.records.specs.Order.{precedes}
 use Rattle.store.specs.Changes.{inserted}

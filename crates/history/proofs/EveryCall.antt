@@ -14,7 +14,7 @@ use Rattle.ints.proofs.Parts.{true-false}
 use Rattle.rows.specs.Phases.{phaseOf, livePhases, slotOf}
 use Rattle.methods.specs.Methods.{choice}
 use Rattle.methods.specs.Aims.{aimIn}
-use Rattle.methods.specs.Chosen.{rowsOfSlot}
+use Rattle.methods.specs.Slots.{rowsOfSlot}
 use Rattle.records.specs.Words.{Words, timeIn, recordsIn, areSound}
 use Rattle.records.proofs.SoundLaws.{sound-parts}
 use Rattle.ledger.specs.Answers.{Counts, valueOf, countsOf, isAccepted}

@@ -25,10 +25,9 @@ use Rattle.grid.proofs.Curve.{cell-of-its-number}
 use Rattle.rows.specs.Phases.{referenceTime, phaseOf, isLive, livePhases, slotOf}
 use Rattle.rows.proofs.PhaseLaws.{listed-live}
 use Rattle.methods.specs.Aims.{aimIn}
-use Rattle.methods.specs.Chosen.{rowsOfSlot}
-use Rattle.methods.proofs.Claims.{choice-once}
-use Rattle.methods.proofs.ChoiceLaws.{choice-on}
-use Rattle.methods.proofs.SetLaws.{cell-of-mark, cells-counted}
+use Rattle.methods.specs.Slots.{rowsOfSlot}
+use Rattle.methods.proofs.Methods.{choice-on, choice-once}
+use Rattle.methods.proofs.Marks.{cell-of-mark, cells-counted}
 use Rattle.records.specs.Words.{Words, timeIn, recordsIn}
 use Rattle.records.specs.Order.{keyIn, slotOfKey, numberOfKey}
 use Rattle.reading.specs.Reading.{inSet, isRead, hasKey}

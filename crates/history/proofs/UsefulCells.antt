@@ -6,6 +6,7 @@ use mathlib.Core.Bool.{Bool, true, _&&_, _||_, cond}
 use mathlib.Core.List.{List, [], _∷_, List·Memᴰ, Memᴰ·cast}
 use Prim.Native.Nat.{ℕ, _+_}
 use lib.Dec.{eqb}
+use lib.ListN.{length}
 use borrow.Author.Tests.{eqb-true, eq-eqb}
 use Rattle.ints.proofs.Truth.{and-true, and-left, and-right}
 use Rattle.ints.proofs.Members.{passing, passing-in, passing-has, some, some-passes, passes-some}
@@ -24,9 +25,9 @@ use Rattle.rows.proofs.RowLaws.{holds-within, holds-one, bounds-valid, bounds-h
 use Rattle.methods.specs.Aims.{aimIn}
 use Rattle.methods.specs.Fair.{InOrder}
 use Rattle.methods.specs.Claims.{ValidRows}
-use Rattle.methods.proofs.Claims.{listed-is-read, choice-once}
-use Rattle.methods.proofs.ChoiceLaws.{choice-on}
-use Rattle.methods.proofs.SetLaws.{countedCells, cells-counted}
+use Rattle.methods.proofs.Claims.{listed-is-read}
+use Rattle.methods.proofs.Methods.{choice-on, choice-once}
+use Rattle.methods.proofs.Marks.{one-more, cells-counted}
 use Rattle.ledger.specs.Machine.{Ledger, Held, placeIn, speedsPlaced, rowsIn, choiceIn, listedHeld, isUseful, usefulCells}
 use Rattle.ledger.proofs.MachineLaws.{speed-placed}
 use Rattle.asking.proofs.AskLaws.{FitAsk, fit-in-order}
@@ -41,10 +42,11 @@ isListedHeld query h = isListed query (h .report)
 abbrev isThere : ℕ → Cell → Held → Bool
 isThere p c h = eqb (h .phase) p && sameCell (placeIn p (h .report)) c
 
-pub useful-cells-are : (p : ℕ) (hs : List Held) (cs : List Cell) → usefulCells p hs cs ≡ countedCells (λ c. isUseful p c hs) cs
-unfolding usefulCells countedCells
+pub useful-cells-are : (p : ℕ) (hs : List Held) (cs : List Cell) → usefulCells p hs cs ≡ length (passing (λ c. isUseful p c hs) cs)
+unfolding usefulCells passing
 useful-cells-are p hs [] = refl
-useful-cells-are p hs (c ∷ cs) = ap (λ (more : ℕ). bit (isUseful p c hs) + more) (useful-cells-are p hs cs)
+useful-cells-are p hs (c ∷ cs) =
+    ap (λ (more : ℕ). bit (isUseful p c hs) + more) (useful-cells-are p hs cs) ∙ one-more (λ e. isUseful p e hs) c cs
 
 -- a cell is useful exactly where a listed float is placed in it
 pub useful-from : (query : Query) (p : ℕ) (c : Cell) (hs : List Held) → isUseful p c (listedHeld query hs) ≡ true

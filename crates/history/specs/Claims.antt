@@ -15,7 +15,7 @@ use Rattle.rows.specs.Phases.{phaseOf, isLive, livePhases, slotOf}
 use Rattle.rows.specs.declared.Drift.{Drift}
 use Rattle.rows.specs.declared.Row.{Row}
 use Rattle.methods.specs.Aims.{aimIn}
-use Rattle.methods.specs.Chosen.{rowsOfSlot}
+use Rattle.methods.specs.Slots.{rowsOfSlot}
 use Rattle.methods.specs.Claims.{Nested}
 use Rattle.records.specs.Words.{Words, timeIn}
 use Rattle.ledger.specs.Answers.{isAccepted, numberOf, countsOf}

@@ -14,7 +14,7 @@ use Rattle.grid.specs.Examples as Grid
 use Rattle.rows.specs.Row.{joined, sameRow, isEmpty, boundsOf}
 use Rattle.rows.specs.Phases.{phaseOf, referenceTime, isLive, livePhases}
 use Rattle.methods.specs.Reach.{expandedRange, expandedRect, blockOf, cellsOfRow, cellsOfRows, cellsOf, movedSpan, meets, movedCellMeets}
-use Rattle.methods.specs.Methods.{boundsIn, expandedBlock, iterated, reached, choice}
+use Rattle.methods.specs.Methods.{boundsIn, expandedBlock, iterated, choice}
 use Rattle.ledger.specs.Refusals.{firstToFail, isRectangle}
 use Rattle.ledger.specs.Machine.{opened, steppedHeld, newPlacements, livePlacements, stepped, without, withReport}
 use Rattle.ledger.specs.Machine.{withoutId, speedsPlaced, rowsIn, usefulCells, putInOrder, idsInOrder, summed}
@@ -25,35 +25,35 @@ use Rattle.ledger.specs.declared.Refusal.the-variants.{Full}
 
 pub all-as-said : map (λ (s : Example). s .given) examples ≡ map (λ (s : Example). s .said) examples
 unfolding examples Grid.examples ledgerP11 ledgerP12 phasesHeld columnsPlaced columnOf cellSpan numberAt minZ maxZ eqZ passing some joined sameRow isEmpty boundsOf expandedRange
-    expandedRect blockOf cellsOfRow cellsOfRows cellsOf movedSpan meets movedCellMeets boundsIn expandedBlock iterated reached choice inRange xAt yAt inRect isListed phaseOf
+    expandedRect blockOf cellsOfRow cellsOfRows cellsOf movedSpan meets movedCellMeets boundsIn expandedBlock iterated choice inRange xAt yAt inRect isListed phaseOf
     referenceTime isLive livePhases firstToFail isRectangle steppedHeld newPlacements livePlacements stepped without withReport withoutId speedsPlaced rowsIn
     usefulCells putInOrder idsInOrder summed answerTo changedBy idsOf next replyTo replies after
 all-as-said = refl
 
 pub listing-as-said : replies (opened (pos 0)) listing ≡ listingSays
 unfolding listing listingSays columnOf cellSpan numberAt minZ maxZ eqZ passing some joined sameRow isEmpty boundsOf expandedRange expandedRect blockOf cellsOfRow cellsOfRows cellsOf
-    movedSpan meets movedCellMeets boundsIn expandedBlock iterated reached choice inRange xAt yAt inRect isListed phaseOf referenceTime isLive livePhases firstToFail isRectangle
+    movedSpan meets movedCellMeets boundsIn expandedBlock iterated choice inRange xAt yAt inRect isListed phaseOf referenceTime isLive livePhases firstToFail isRectangle
     steppedHeld newPlacements livePlacements stepped without withReport withoutId speedsPlaced rowsIn usefulCells putInOrder idsInOrder summed answerTo
     changedBy idsOf next replyTo replies after
 listing-as-said = refl
 
 pub refused-as-said : answers (opened (pos 3600)) refused ≡ refusedSays
 unfolding answers refused refusedSays columnOf cellSpan numberAt minZ maxZ eqZ passing some joined sameRow isEmpty boundsOf expandedRange expandedRect blockOf cellsOfRow cellsOfRows
-    cellsOf movedSpan meets movedCellMeets boundsIn expandedBlock iterated reached choice inRange xAt yAt inRect isListed phaseOf referenceTime isLive livePhases firstToFail
+    cellsOf movedSpan meets movedCellMeets boundsIn expandedBlock iterated choice inRange xAt yAt inRect isListed phaseOf referenceTime isLive livePhases firstToFail
     isRectangle steppedHeld newPlacements livePlacements stepped without withReport withoutId speedsPlaced rowsIn usefulCells putInOrder idsInOrder
     summed answerTo changedBy idsOf next replyTo replies after
 refused-as-said = refl
 
 pub full-as-said : (answerTo (crowd 1024) (add (sent 2 0 0 0 (pos 0) (pos 0))) ≡ Refused Full) × (answerTo (crowd 1023) (add (sent 2 0 0 0 (pos 0) (pos 0))) ≡ Accepted 1024)
 unfolding columnOf cellSpan numberAt minZ maxZ eqZ passing some joined sameRow isEmpty boundsOf expandedRange expandedRect blockOf cellsOfRow cellsOfRows cellsOf movedSpan meets
-    movedCellMeets boundsIn expandedBlock iterated reached choice inRange xAt yAt inRect isListed phaseOf referenceTime isLive livePhases firstToFail isRectangle steppedHeld
+    movedCellMeets boundsIn expandedBlock iterated choice inRange xAt yAt inRect isListed phaseOf referenceTime isLive livePhases firstToFail isRectangle steppedHeld
     newPlacements livePlacements stepped without withReport withoutId speedsPlaced rowsIn usefulCells putInOrder idsInOrder summed answerTo changedBy
     idsOf next replyTo replies after
 full-as-said = (refl, refl)
 
 pub numbers-as-said : map (λ (s : Example). s .given) numbers ≡ map (λ (s : Example). s .said) numbers
 unfolding numbers ledgerOfOne columnOf cellSpan numberAt minZ maxZ eqZ passing some joined sameRow isEmpty boundsOf expandedRange expandedRect blockOf cellsOfRow cellsOfRows cellsOf
-    movedSpan meets movedCellMeets boundsIn expandedBlock iterated reached choice inRange xAt yAt inRect isListed phaseOf referenceTime isLive livePhases firstToFail isRectangle
+    movedSpan meets movedCellMeets boundsIn expandedBlock iterated choice inRange xAt yAt inRect isListed phaseOf referenceTime isLive livePhases firstToFail isRectangle
     steppedHeld newPlacements livePlacements stepped without withReport withoutId speedsPlaced rowsIn usefulCells putInOrder idsInOrder summed answerTo
     changedBy idsOf next replyTo replies after
 numbers-as-said = refl

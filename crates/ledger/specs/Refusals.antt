@@ -9,7 +9,7 @@ use lib.IntN.{ℤ, pos, _+ℤ_, _-ℤ_}
 use lib.Signed.{leZ, ltZ}
 use Rattle.ints.specs.Whole.{between}
 use Rattle.grid.specs.Reports.{isTime, isId, isPosition, inRange}
-use Rattle.grid.specs.Units.{capacity}
+use Rattle.grid.specs.Units.{capacity, askBefore, askAfter}
 use Rattle.grid.specs.declared.Query.{Query}
 use Rattle.grid.specs.declared.Rect.{Rect}
 use Rattle.grid.specs.declared.Report.{Report}
@@ -55,7 +55,7 @@ badStepTime now t = not (isTime t) || ltZ t now
 
 -- 3, for ask: or outside now - 3,600 to now + 7,200
 abbrev pub badAskTime : ℤ → Query → Bool
-badAskTime now query = not (isTime (query .time)) || not (between (now -ℤ pos 3600) (now +ℤ pos 7200) (query .time))
+badAskTime now query = not (isTime (query .time)) || not (between (now -ℤ pos askBefore) (now +ℤ pos askAfter) (query .time))
 
 -- 4, for add and report: id, position or speed outside its range
 abbrev pub badReport : Report → Bool

@@ -1,7 +1,7 @@
 -- The rules "per axis" of both ways to reach, each law once for both axes: an expanded range grows with its bounds, a column grows
 -- with its position, and a moved cell meets a range exactly when some whole position and whole speed lead into it.
 -- Assumes nothing.
-use mathlib.Core.Path.{_≡_, refl, ap, _∙_}
+use mathlib.Core.Path.{_≡_, refl, ap, ap₂, _∙_}
 use mathlib.Core.Bool.{Bool, true, false, _&&_}
 use Prim.Native.Nat.{ℕ, zero, suc, _+_, _-_, _*_, _≤_}
 use native.Mathlib.Nat.{add-mul, suc-mul}
@@ -12,8 +12,8 @@ use lib.Signed.{leZ}
 use Rattle.ints.specs.Whole.{between}
 use Rattle.ints.proofs.Parts.{up, down, signed, add, sub, mul, one-part, mul-keeps, mul-turns, true-false}
 use Rattle.ints.proofs.Least.{le-refl}
-use Rattle.ints.proofs.Truth.{and-true, and-left, and-right}
-use Rattle.grid.specs.Units.{cellSize}
+use Rattle.ints.proofs.Truth.{same-truth, and-true, and-left, and-right}
+use Rattle.grid.specs.Units.{side, cellSize}
 use Rattle.grid.specs.Places.{End, Span, endless, at, endAt, columnOf, cellSpan, inSpan, notBelow, notAbove, positionAfter}
 use Rattle.grid.proofs.Places.{column-is}
 use Rattle.methods.specs.Reach.{expandedRange, movedSpan, forward, backward, meets}
@@ -177,7 +177,7 @@ data Wide : End → End → Type 0 where
 
 cell-wide : (i : ℕ) → Wide (cellSpan i .low) (cellSpan i .high)
 unfolding cellSpan
-cell-wide i = go (eqb i 0) (eqb i 31)
+cell-wide i = go (eqb i 0) (eqb i (side - 1))
   where
     go : (a b : Bool) → Wide (endAt a (pos (cellSize * i))) (endAt b (pos (cellSize * i + (cellSize - 1))))
     go true b = no-low
@@ -332,3 +332,20 @@ leads-meets i l g d r e =
     after : (hi : End) (x s t low : ℤ) → notAbove hi x ≡ true → leZ s t ≡ true → leZ low (x +ℤ s) ≡ true → notAbove (shifted hi t) low ≡ true
     after endless x s t low h k m = refl
     after (at e) x s t low h k m = omega (arith, signed, add x s, add e t)
+
+-- ---- a moved span that meets a range meets the expanded range where it is: an end moved by t is not past z exactly when it is itself not past z - t
+
+low-moves : (e : End) (t z : ℤ) → notBelow (shifted e t) z ≡ notBelow e (z -ℤ t)
+low-moves endless t z = refl
+low-moves (at e) t z =
+    same-truth _ _ (λ h. omega (arith, signed, add e t, sub z t)) (λ h. omega (arith, signed, add e t, sub z t))
+
+high-moves : (e : End) (t z : ℤ) → notAbove (shifted e t) z ≡ notAbove e (z -ℤ t)
+high-moves endless t z = refl
+high-moves (at e) t z =
+    same-truth _ _ (λ h. omega (arith, signed, add e t, sub z t)) (λ h. omega (arith, signed, add e t, sub z t))
+
+pub meets-expanded : (s : Span) (l g d : ℤ) (r : Range) → meets (movedSpan s l g d) r ≡ notBelow (s .low) (expandedRange r l g d .high) && notAbove (s .high) (expandedRange r l g d .low)
+meets-expanded s l g d r =
+    meets-is s l g d r
+    ∙ rw (expanded-is r l g d) (ap₂ _&&_ (low-moves (s .low) (leastTravel l g d) (r .high)) (high-moves (s .high) (greatestTravel l g d) (r .low)))

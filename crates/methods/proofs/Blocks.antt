@@ -1,19 +1,19 @@
 -- The cells of a block: a cell is among them exactly when its column and its row are the block's, and each stands once.
--- The cells that the optimal method keeps are those of a list that it reaches, each once where the list has each once.
+-- Of a list that has each cell once, so have the cells that pass a test.
 -- Assumes nothing.
-use mathlib.Core.Path.{_≡_, refl, sym, ap, _∙_}
-use mathlib.Core.Bool.{Bool, true, false}
+use mathlib.Core.Path.{_≡_, refl, ap}
+use mathlib.Core.Bool.{Bool, true, false, cond}
 use mathlib.Core.List.{List, [], _∷_, _++_, List·Memᴰ, List·Memᴰ·head, List·Memᴰ·tail, List·Memᴰ·cases-cons, List·Memᴰ·not-nil, List·Memᴰ·append-cases, Memᴰ·append-left, Memᴰ·append-right}
-use mathlib.Core.Logic.{_⊎_, inl, inr, ⊎-elim, dite, _↔_}
+use mathlib.Core.Logic.{⊎-elim, dite, _↔_}
 use Prim.Native.Nat.{ℕ, zero, suc, _+_, _≤_, _<_}
 use native.Mathlib.Decide.{ℕ-discrete}
 use native.Mathlib.Omega.{arith}
+use Rattle.ints.specs.Lists.{passing}
+use Rattle.ints.proofs.Members.{passing-in}
 use Rattle.grid.specs.Places.{OnGrid}
 use Rattle.grid.specs.Curve.{cell}
 use Rattle.grid.specs.declared.Cell.{Cell}
 use Rattle.methods.specs.Reach.{columnsOf, rowsOf, cellsOfRow, cellsOfRows, cellsOf, wholeGrid}
-use Rattle.methods.specs.Aims.{Aim}
-use Rattle.methods.specs.Methods.{Rows, isReached, keepIf, reached}
 use Rattle.methods.specs.declared.Block.{Block}
 
 -- a cell's column and row are the block's
@@ -119,44 +119,11 @@ pub cells-once : (b : Block) → Once (cellsOf b)
 unfolding cellsOf
 cells-once b = rows-once b (b .«first_row») (rowsOf b)
 
--- ---- the cells that are reached
-
-kept-in : {c : Cell} (t : Bool) (e : Cell) (cs : List Cell) → List·Memᴰ c (keepIf t e cs) → ((c ≡ e) × (t ≡ true)) ⊎ List·Memᴰ c cs
-kept-in true e cs m = ⊎-elim (λ p. inl (p, refl)) inr (List·Memᴰ·cases-cons m)
-kept-in false e cs m = inr m
-
-later : {c : Cell} (t : Bool) (e : Cell) (cs : List Cell) → List·Memᴰ c cs → List·Memᴰ c (keepIf t e cs)
-later true e cs m = List·Memᴰ·tail m
-later false e cs m = m
-
-module _ (rows : Rows) (aim : Aim) where
-  pub reached-in : {c : Cell} (cs : List Cell) → List·Memᴰ c (reached rows aim cs) → List·Memᴰ c cs × (isReached rows aim c ≡ true)
-  unfolding reached
-  reached-in [] m = absurd (List·Memᴰ·not-nil m)
-  reached-in {c} (e ∷ cs) m =
-      ⊎-elim
-      (λ (h : (c ≡ e) × (isReached rows aim e ≡ true)). (List·Memᴰ·head (h .0), ap (isReached rows aim) (h .0) ∙ h .1))
-      (λ k. let r = reached-in cs k in (List·Memᴰ·tail (r .0), r .1))
-      (kept-in (isReached rows aim e) e (reached rows aim cs) m)
-
-  pub reached-has : {c : Cell} (cs : List Cell) → List·Memᴰ c cs → isReached rows aim c ≡ true → List·Memᴰ c (reached rows aim cs)
-  unfolding reached
-  reached-has [] m h = absurd (List·Memᴰ·not-nil m)
-  reached-has {c} (e ∷ cs) m h =
-      ⊎-elim
-      (λ (p : c ≡ e). rw (sym (ap (isReached rows aim) p) ∙ h) (List·Memᴰ·head p))
-      (λ k. later (isReached rows aim e) e (reached rows aim cs) (reached-has cs k h))
-      (List·Memᴰ·cases-cons m)
-
-  -- a cell is kept exactly when it is in the list and is reached
-  pub reached-exactly : (cs : List Cell) (c : Cell) → List·Memᴰ c (reached rows aim cs) ↔ (List·Memᴰ c cs × (isReached rows aim c ≡ true))
-  reached-exactly cs c = (reached-in cs, λ h. reached-has cs (h .0) (h .1))
-
-  pub reached-once : {cs : List Cell} → Once cs → Once (reached rows aim cs)
-  unfolding reached
-  reached-once none = none
-  reached-once (one {c} {cs} new k) = go (isReached rows aim c) (reached-once k)
-    where
-      go : (t : Bool) → Once (reached rows aim cs) → Once (keepIf t c (reached rows aim cs))
-      go true h = one (λ m. new (reached-in cs m .0)) h
-      go false h = h
+pub passing-once : (f : Cell → Bool) {cs : List Cell} → Once cs → Once (passing f cs)
+unfolding passing
+passing-once f none = none
+passing-once f (one {c} {cs} new k) = go (f c) (passing-once f k)
+  where
+    go : (t : Bool) → Once (passing f cs) → Once (cond t (c ∷ passing f cs) (passing f cs))
+    go true h = one (λ m. new (passing-in f cs m .0)) h
+    go false h = h

@@ -1,11 +1,12 @@
 -- The claims of specs/Claims.antt, proved: for any fair aim the methods are nested, the rounds are few and no float is missed; for a timeslice the
--- optimal method is exact. Also: the bound on the rounds never cuts a search short, and no method's choice holds a cell twice.
+-- optimal method is exact. Also: the bound on the rounds never cuts a search short.
 -- Assumes nothing.
 use mathlib.Core.Path.{_≡_, refl, sym, _∙_, subst}
 use mathlib.Core.Bool.{Bool, true, false}
 use mathlib.Core.List.{List·Memᴰ, List·Memᴰ·not-nil}
 use Prim.Native.Nat.{ℕ, zero, suc, _+_, _-_}
 use native.Mathlib.Omega.{arith}
+use Rattle.ints.proofs.Members.{passing-in, passing-has}
 use Rattle.grid.specs.Places.{OnGrid}
 use Rattle.grid.specs.Reports.{cellAtTime, isListed}
 use Rattle.grid.specs.declared.Cell.{Cell}
@@ -22,9 +23,10 @@ use Rattle.methods.specs.Methods.{Rows, Found, missing, found, cellsFoun
 use Rattle.methods.specs.Methods.{expandedBlock, naiveBlock, semiNaiveBlock, iterated, mostRounds, iterativeSearch, isReached, choice}
 use Rattle.methods.specs.Claims.{ValidRows, Reads, Nested, MethodsAreNested, RoundsAreFew, NoFloatIsMissed, OptimalIsExact}
 use Rattle.methods.specs.declared.Block.{Block}
-use Rattle.methods.proofs.Blocks.{cells-have, grid-has, BlockWithin, cells-within, within-grid-on, Once, none, cells-once, reached-in, reached-has, reached-once}
+use Rattle.methods.proofs.Blocks.{cells-have, grid-has, BlockWithin, cells-within}
 use Rattle.methods.proofs.Exact.{own-reached, reached-is-exact}
 use Rattle.methods.proofs.Nesting.{expand, size, in-bounds, next, Shrinking, naive-shrinking, next-shrinking, expand-holds, not-missing}
+use Rattle.methods.proofs.Methods.{found-on, expanded-on}
 use Rattle.methods.proofs.Timeslice.{timeslice-is-fair, timeslice-sees, listed-inside}
 use Rattle.methods.proofs.Rounds.{Few, none-is, onward-is, search-within, search-keeps, search-few, search-ends}
 
@@ -52,10 +54,6 @@ expansion w aim = go (isEmpty w) refl
 -- the semi-naive method expands by the bounds of the naive block's rows
 semi-naive-is : (rows : Rows) (aim : Aim) (b : Block) → naiveBlock rows aim ≡ found b → semiNaiveBlock rows aim ≡ expandedBlock (boundsIn rows b) aim
 semi-naive-is rows aim b p = rw p
-
-found-once : (f : Found) → Once (cellsFound f)
-found-once missing = none
-found-once (found b) = cells-once b
 
 found-same : {a b : Block} → found a ≡ found b → a ≡ b
 found-same p = cc
@@ -89,22 +87,18 @@ module _ (rows : Rows) (valid : ValidRows rows) (aim : Aim) (fair : Fair aim) wh
       go (one-found e h) = subst (Shrinking rows aim) (found-same (sym h ∙ p)) (naive-shrinking rows valid aim fair e)
 
   naive-on : {c : Cell} → List·Memᴰ c (cellsFound (naiveBlock rows aim)) → OnGrid c
-  naive-on {c} m = go (naiveBlock rows aim) refl
-    where
-      go : (f : Found) → naiveBlock rows aim ≡ f → OnGrid c
-      go missing p = absurd (List·Memᴰ·not-nil (rw p at m))
-      go (found b) p = within-grid-on (naive-found p .on) (rw p at m)
+  naive-on m = found-on (naiveBlock rows aim) (expanded-on (phaseBounds rows) aim) m
 
   -- the optimal method reads the cells on the grid that are reached
   pub optimal-reached : {c : Cell} → Reads 3 rows aim c → OnGrid c × (isReached rows aim c ≡ true)
   unfolding choice
   optimal-reached m =
-      let k = reached-in rows aim (cellsFound (naiveBlock rows aim)) m in
+      let k = passing-in (isReached rows aim) (cellsFound (naiveBlock rows aim)) m in
       (naive-on (k .0), k .1)
 
   pub reached-optimal : {c : Cell} → OnGrid c → isReached rows aim c ≡ true → Reads 3 rows aim c
   unfolding choice
-  reached-optimal on r = reached-has rows aim (cellsFound (naiveBlock rows aim)) (naive-has on r) r
+  reached-optimal on r = passing-has (isReached rows aim) (cellsFound (naiveBlock rows aim)) (naive-has on r) r
 
   -- ---- nesting
 
@@ -213,11 +207,3 @@ optimal-is-exact rows valid s is c on =
     let fair = timeslice-is-fair s (is .in-order) in
     let exact = reached-is-exact rows valid s is c on in
     (λ m. exact .0 (optimal-reached rows valid aim fair m .1), λ r. reached-optimal rows valid aim fair on (exact .1 r))
-
--- no method's choice holds a cell twice
-pub choice-once : (method : ℕ) (rows : Rows) (aim : Aim) → Once (choice method rows aim .cells)
-unfolding choice
-choice-once zero rows aim = found-once (naiveBlock rows aim)
-choice-once (suc zero) rows aim = found-once (semiNaiveBlock rows aim)
-choice-once (suc (suc zero)) rows aim = found-once (iterativeSearch rows aim (naiveBlock rows aim) .block)
-choice-once (suc (suc (suc m))) rows aim = reached-once rows aim (found-once (naiveBlock rows aim))

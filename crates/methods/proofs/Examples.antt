@@ -3,17 +3,18 @@
 use mathlib.Core.Path.{_≡_, refl}
 use mathlib.Core.List.{map}
 use Rattle.ints.specs.Whole.{minZ, maxZ, eqZ}
+use Rattle.ints.specs.Lists.{passing}
 use Rattle.grid.specs.Places.{columnOf, cellSpan}
 use Rattle.grid.specs.Curve.{numberAt}
 use Rattle.grid.specs.Examples.{Example}
 use Rattle.grid.specs.Examples as Grid
 use Rattle.rows.specs.Row.{joined, sameRow, isEmpty, boundsOf}
 use Rattle.methods.specs.Reach.{expandedRange, expandedRect, blockOf, cellsOfRow, cellsOfRows, cellsOf, movedSpan, meets, movedCellMeets}
-use Rattle.methods.specs.Methods.{boundsIn, expandedBlock, iterated, reached, choice}
+use Rattle.methods.specs.Methods.{boundsIn, expandedBlock, iterated, choice}
 use Rattle.methods.specs.Examples.{examples, rowsP11, choiceP11}
 
 pub all-as-said : map (λ (s : Example). s .given) examples ≡ map (λ (s : Example). s .said) examples
-unfolding examples Grid.examples columnOf cellSpan numberAt minZ maxZ eqZ joined sameRow isEmpty boundsOf
+unfolding examples Grid.examples columnOf cellSpan numberAt minZ maxZ eqZ passing joined sameRow isEmpty boundsOf
     expandedRange expandedRect blockOf cellsOfRow cellsOfRows cellsOf movedSpan meets movedCellMeets
-    boundsIn expandedBlock iterated reached choice rowsP11 choiceP11
+    boundsIn expandedBlock iterated choice rowsP11 choiceP11
 all-as-said = refl

@@ -4,13 +4,7 @@ pub mod Nesting
 pub mod Timeslice
 pub mod Exact
 pub mod Rounds
+pub mod Methods
 pub mod Claims
-pub mod ReachLaws
-pub mod Passes
-pub mod BoundsLaws
-pub mod MarkLaws
-pub mod ChosenLaws
-pub mod ChooseLaws
+pub mod Marks
 pub mod Examples
-pub mod ChoiceLaws
-pub mod SetLaws

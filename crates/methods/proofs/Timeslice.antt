@@ -25,9 +25,8 @@ use Rattle.methods.specs.Aims.{sliceOf, Placed, placedBy, ownCell, heldB
 use Rattle.methods.specs.Fair.{InOrder, RectWithin}
 use Rattle.methods.specs.Claims.{TimesliceIsFair, TimesliceSees}
 use Rattle.methods.specs.declared.Slice.{Slice}
-use Rattle.methods.proofs.Axis.{expanded-ordered, expanded-grows, Leads, leads-meets}
+use Rattle.methods.proofs.Axis.{expanded-ordered, expanded-grows, Leads, leads-meets, meets-expanded}
 use Rattle.methods.proofs.Blocks.{cells-have}
-use Rattle.methods.proofs.ReachLaws.{meets-expanded}
 
 -- ---- fair
 

@@ -13,7 +13,7 @@ use Rattle.methods.specs.Reach.{columnsOf, rowsOf}
 use Rattle.methods.specs.Aims.{Aim, sliceAim, Placed, ownCell, heldBy, inSlice}
 use Rattle.methods.specs.Fair.{InOrder, Fair, Sees}
 use Rattle.methods.specs.Methods.{Rows, found, naiveBlock, choice}
-use Rattle.methods.specs.Chosen.{IsSlice}
+use Rattle.methods.specs.Slices.{IsSlice}
 use Rattle.methods.specs.declared.Block.{Block}
 use Rattle.methods.specs.declared.Slice.{Slice}
 

@@ -2,9 +2,8 @@ pub mod Reach
 pub mod Aims
 pub mod Fair
 pub mod Methods
-pub mod Chosen
-pub mod Small
-pub mod Marked
-pub mod Given
+pub mod Slots
+pub mod Marks
+pub mod Slices
 pub mod Claims
 pub mod Examples

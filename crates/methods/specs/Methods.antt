@@ -2,8 +2,10 @@
 -- by cell and of the ask's aim.
 -- Assumes nothing.
 use mathlib.Core.Bool.{Bool, true, false, _&&_, not}
-use mathlib.Core.List.{List, [], _∷_, map}
-use Prim.Native.Nat.{ℕ, zero, suc}
+use mathlib.Core.List.{List, [], map}
+use Prim.Native.Nat.{ℕ, zero, suc, _+_}
+use Rattle.ints.specs.Lists.{passing}
+use Rattle.grid.specs.Units.{side}
 use Rattle.grid.specs.declared.Cell.{Cell}
 use Rattle.rows.specs.Row.{emptyRow, isEmpty, sameRow, boundsOf}
 use Rattle.rows.specs.declared.Row.{Row}
@@ -71,9 +73,9 @@ iterated (suc most) rows aim before b rounds =
       ]
     ]
 
--- the rounds' bound: a naive block has at most 32 columns and 32 rows, and a search takes at most columns + rows - 1 rounds
+-- the rounds' bound: a search takes at most columns + rows - 1 rounds of the naive block
 abbrev pub mostRounds : ℕ
-mostRounds = 64
+mostRounds = side + side
 
 -- before the first round there are no bounds to repeat. The naive expansion is no round
 abbrev pub iterativeSearch : Rows → Aim → Found → Search
@@ -84,13 +86,8 @@ iterativeSearch rows aim (found b) = iterated mostRounds rows aim emptyRow b 0
 abbrev pub isReached : Rows → Aim → Cell → Bool
 isReached rows aim c = not (isEmpty (rows c)) && aim .meets c (rows c)
 
-abbrev pub keepIf : Bool → Cell → List Cell → List Cell
-keepIf true c cs = c ∷ cs
-keepIf false c cs = cs
-
-unfoldable pub reached : Rows → Aim → List Cell → List Cell
-reached rows aim [] = []
-reached rows aim (c ∷ cs) = keepIf (isReached rows aim c) c (reached rows aim cs)
+abbrev pub reached : Rows → Aim → List Cell → List Cell
+reached rows aim = passing (isReached rows aim)
 
 -- a method's choice in a live phase: the cells to read, each once, and the rounds, which are 0 but for method 2
 pub record Choice : Type 0 where

@@ -1,9 +1,4 @@
-// The four ways to choose cells: document 01, "The four ways to choose cells".
-
-pub mod bounds;
-pub mod choose;
-pub mod mark;
-pub mod reach;
+// What the definitions of the four ways to choose cells speak of: document 01, "The four ways to choose cells". The code is in crates/choosing.
 
 use grid::Rect;
 
@@ -19,16 +14,4 @@ pub struct Block {
     pub last_column: usize,
     pub first_row: usize,
     pub last_row: usize,
-}
-
-// A block, or none where bounds are missing.
-pub struct FoundBlock {
-    pub missing: bool,
-    pub block: Block,
-}
-
-// What the iterative method comes to, and the rounds that it took.
-pub struct Searched {
-    pub found: FoundBlock,
-    pub rounds: usize,
 }

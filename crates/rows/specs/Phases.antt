@@ -6,6 +6,7 @@ use mathlib.Core.List.{List, [], _∷_}
 use Prim.Native.Nat.{ℕ, zero, suc, _+_, _*_, _/_, _%_}
 use lib.Dec.{leb}
 use lib.IntN.{ℤ, pos, negsuc, _-ℤ_}
+use Rattle.grid.specs.Units.{lastTime}
 
 -- the length of a phase
 abbrev pub phaseSeconds : ℕ
@@ -19,6 +20,10 @@ slots = 3
 unfoldable pub phaseOf : ℤ → ℕ
 phaseOf (pos t) = t / phaseSeconds
 phaseOf (negsuc t) = 0
+
+-- the phase of the last time
+abbrev pub lastPhase : ℕ
+lastPhase = lastTime / phaseSeconds
 
 -- the reference time of a phase. Every d of the methods and every placement goes by it
 unfoldable pub referenceTime : ℕ → ℤ

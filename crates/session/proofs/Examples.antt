@@ -10,7 +10,7 @@ use Rattle.grid.specs.Reports.{inRange, xAt, yAt, inRect, isListed}
 use Rattle.rows.specs.Row.{joined, sameRow, isEmpty, boundsOf}
 use Rattle.rows.specs.Phases.{phaseOf, referenceTime, isLive, livePhases}
 use Rattle.methods.specs.Reach.{expandedRange, expandedRect, blockOf, cellsOfRow, cellsOfRows, cellsOf, movedSpan, meets, movedCellMeets}
-use Rattle.methods.specs.Methods.{boundsIn, expandedBlock, iterated, reached, choice}
+use Rattle.methods.specs.Methods.{boundsIn, expandedBlock, iterated, choice}
 use Rattle.ledger.specs.Refusals.{firstToFail, isRectangle}
 use Rattle.ledger.specs.Machine.{steppedHeld, newPlacements, livePlacements, stepped, without, withReport, withoutId}
 use Rattle.ledger.specs.Machine.{speedsPlaced, rowsIn, usefulCells, putInOrder, idsInOrder, summed}
@@ -24,7 +24,7 @@ use Rattle.session.specs.Examples.{ended, listing, listingSays, damaged,
 pub listing-is-replayed : replayed (ended listing) ≡ ended listingSays
 unfolding listing listingSays replayed answered linesFrom answerTo next ended bytes readLine countOf numbersOf changeNumbers callOf numbersIn areNumbers seenAt numberOf
     after withDigit noCallLine letterOf fields fieldOf written digits columnOf cellSpan numberAt minZ maxZ eqZ passing some joined sameRow isEmpty boundsOf expandedRange expandedRect
-    blockOf cellsOfRow cellsOfRows cellsOf movedSpan meets movedCellMeets boundsIn expandedBlock iterated reached choice inRange xAt yAt inRect isListed phaseOf
+    blockOf cellsOfRow cellsOfRows cellsOf movedSpan meets movedCellMeets boundsIn expandedBlock iterated choice inRange xAt yAt inRect isListed phaseOf
     referenceTime isLive livePhases firstToFail isRectangle steppedHeld newPlacements livePlacements stepped without withReport withoutId speedsPlaced rowsIn
     usefulCells putInOrder idsInOrder summed L.answerTo L.changedBy L.idsOf L.next L.replyTo
 listing-is-replayed = refl
@@ -32,7 +32,7 @@ listing-is-replayed = refl
 pub damaged-is-replayed : replayed (ended damaged ++ bytes lastLine) ≡ ended damagedSays
 unfolding damaged damagedSays replayed answered linesFrom answerTo next ended bytes readLine countOf numbersOf changeNumbers callOf numbersIn areNumbers seenAt numberOf
     after withDigit noCallLine letterOf fields fieldOf written digits columnOf cellSpan numberAt minZ maxZ eqZ passing some joined sameRow isEmpty boundsOf expandedRange expandedRect
-    blockOf cellsOfRow cellsOfRows cellsOf movedSpan meets movedCellMeets boundsIn expandedBlock iterated reached choice inRange xAt yAt inRect isListed phaseOf
+    blockOf cellsOfRow cellsOfRows cellsOf movedSpan meets movedCellMeets boundsIn expandedBlock iterated choice inRange xAt yAt inRect isListed phaseOf
     referenceTime isLive livePhases firstToFail isRectangle steppedHeld newPlacements livePlacements stepped without withReport withoutId speedsPlaced rowsIn
     usefulCells putInOrder idsInOrder summed L.answerTo L.changedBy L.idsOf L.next L.replyTo
 damaged-is-replayed = refl

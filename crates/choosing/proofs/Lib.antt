@@ -1,0 +1,4 @@
+pub mod Passes
+pub mod BoundsLaws
+pub mod MarkLaws
+pub mod ChooseLaws

@@ -1,0 +1,111 @@
+-- What the code of mark relies on: marking goes list by list, and a loop that marks what is left of a list marks the whole list.
+-- Assumes nothing.
+use mathlib.Core.Path.{_≡_, refl, sym, ap, _∙_}
+use mathlib.Core.Bool.{Bool, true, false}
+use mathlib.Core.List.{List, [], _∷_, _++_}
+use mathlib.Core.Logic.{dite}
+use Prim.Native.Nat.{ℕ, _+_, _≤_, _<_}
+use native.Mathlib.Decide.{ℕ-discrete}
+use native.Mathlib.Omega.{arith}
+use lib.ListN.{length, getD, set, replicate, length-replicate, getD-replicate}
+use lib.Seq.{getD-set-same, getD-set-other, ext-getD}
+use Rattle.ints.specs.Lists.{passing}
+use Rattle.ints.proofs.Members.{passing-append}
+use Rattle.grid.specs.Units.{cells}
+use Rattle.grid.specs.Curve.{cell}
+use Rattle.grid.specs.declared.Cell.{Cell}
+use Rattle.rows.specs.Row.{isEmpty}
+use Rattle.methods.specs.Aims.{Aim}
+use Rattle.methods.specs.Methods.{Rows, isReached, reached}
+use Rattle.methods.specs.Marks.{withCells}
+use Rattle.choosing.specs.Mark.{noMarks, Marked}
+use Rattle.methods.specs.declared.Block.{Block}
+use Rattle.choosing.proofs.Passes.{rowFrom, row-before, row-none, rowsFrom, rows-before, rows-none}
+
+-- ---- clearing
+
+pub cleared-more : (marks : List ℕ) (n : ℕ) → n < length marks → ((k : ℕ) → k < n → getD marks k 0 ≡ 0) → (k : ℕ) → k < n + 1 → getD (set marks n 0) k 0 ≡ 0
+cleared-more marks n h before k l =
+    dite (ℕ-discrete k n)
+    (λ e. ap (λ (j : ℕ). getD (set marks n 0) j 0) e ∙ getD-set-same marks n 0 0 h)
+    (λ e. getD-set-other marks n k 0 0 e ∙ before k (omega arith))
+
+pub cleared-all : (marks : List ℕ) → length marks ≡ cells → ((k : ℕ) → k < cells → getD marks k 0 ≡ 0) → marks ≡ noMarks
+unfolding noMarks
+cleared-all marks e h =
+    ext-getD 0 marks (replicate cells 0) (e ∙ sym (length-replicate {A = ℕ} cells 0))
+    (λ i l. h i (omega arith) ∙ sym (getD-replicate {A = ℕ} cells i 0 0 (omega arith)))
+
+pub no-marks-length : {marks : List ℕ} → marks ≡ noMarks → length marks ≡ cells
+unfolding noMarks
+no-marks-length e = ap length e ∙ length-replicate {A = ℕ} cells 0
+
+-- ---- marking
+
+pub with-append : (marks : List ℕ) (xs ys : List Cell) → withCells marks (xs ++ ys) ≡ withCells (withCells marks xs) ys
+unfolding withCells
+with-append marks [] ys = refl
+with-append marks (x ∷ xs) ys = with-append (set marks _ 1) xs ys
+
+pub with-none : (marks : List ℕ) → withCells marks [] ≡ marks
+unfolding withCells
+with-none marks = refl
+
+pub marked-none : (marks : List ℕ) → Marked marks [] marks
+marked-none marks = record { marks-are = sym (with-none marks) }
+
+-- what is left of a list to mark
+pub record Left (marks₀ : List ℕ) (all : List Cell) (marks : List ℕ) (rest : List Cell) : Type 0 where
+  pub marks-left : withCells marks rest ≡ withCells marks₀ all
+
+pub left-all : (marks : List ℕ) (all : List Cell) → Left marks all marks all
+left-all marks all = record { marks-left = refl }
+
+module _ {marks₀ : List ℕ} {all : List Cell} {marks : List ℕ} {rest : List Cell} (l : Left marks₀ all marks rest) where
+  pub left-next : (xs rest′ : List Cell) {after : List ℕ} → rest ≡ xs ++ rest′ → Marked marks xs after → Left marks₀ all after rest′
+  left-next xs rest′ e m =
+      record { marks-left = ap (λ (ys : List ℕ). withCells ys rest′) (m .marks-are) ∙ sym (with-append marks xs rest′) ∙ sym (ap (withCells marks) e) ∙ l .marks-left }
+
+  pub left-none : rest ≡ [] → Marked marks₀ all marks
+  left-none e = record { marks-are = sym (with-none marks) ∙ sym (ap (withCells marks) e) ∙ l .marks-left }
+
+-- ---- the cells that are reached
+
+module _ (rows : Rows) (aim : Aim) where
+  -- as the loops pass them
+  pub reached-row-before :
+      (b : Block) (row column : ℕ)
+      → column < b .«last_column» + 1
+      → reached rows aim (rowFrom b row column) ≡ reached rows aim (cell column row ∷ []) ++ reached rows aim (rowFrom b row (column + 1))
+  reached-row-before b row column h =
+      ap (reached rows aim) (row-before b row column h) ∙ passing-append (isReached rows aim) (cell column row ∷ []) (rowFrom b row (column + 1))
+
+  pub reached-row-none : (b : Block) (row column : ℕ) → b .«last_column» + 1 ≤ column → reached rows aim (rowFrom b row column) ≡ []
+  unfolding passing
+  reached-row-none b row column h = rw (row-none b row column h)
+
+  pub reached-rows-before :
+      (b : Block) (row : ℕ)
+      → row < b .«last_row» + 1
+      → reached rows aim (rowsFrom b row) ≡ reached rows aim (rowFrom b row (b .«first_column»)) ++ reached rows aim (rowsFrom b (row + 1))
+  reached-rows-before b row h =
+      ap (reached rows aim) (rows-before b row h) ∙ passing-append (isReached rows aim) (rowFrom b row (b .«first_column»)) (rowsFrom b (row + 1))
+
+  pub reached-rows-none : (b : Block) (row : ℕ) → b .«last_row» + 1 ≤ row → reached rows aim (rowsFrom b row) ≡ []
+  unfolding passing
+  reached-rows-none b row h = rw (rows-none b row h)
+
+  -- by what a test of the cell gave back
+  pub reached-one : (c : Cell) {r : Bool} → r ≡ isReached rows aim c → r ≡ true → reached rows aim (c ∷ []) ≡ c ∷ []
+  unfolding passing
+  reached-one c is e = let t : isReached rows aim c ≡ true = sym is ∙ e in rw t
+
+  pub reached-not : (c : Cell) {r : Bool} → r ≡ isReached rows aim c → r ≡ false → reached rows aim (c ∷ []) ≡ []
+  unfolding passing
+  reached-not c is e = let t : isReached rows aim c ≡ false = sym is ∙ e in rw t
+
+  pub empty-not-reached : (c : Cell) → isEmpty (rows c) ≡ true → false ≡ isReached rows aim c
+  empty-not-reached c e = rw e
+
+  pub reached-is : (c : Cell) → isEmpty (rows c) ≡ false → aim .meets c (rows c) ≡ isReached rows aim c
+  reached-is c e = rw e

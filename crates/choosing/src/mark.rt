@@ -1,0 +1,142 @@
+// Marks by curve number: 1 at a chosen cell, 0 at any other.
+ghost use mathlib.Core.Path.{_≡_};
+ghost use mathlib.Core.List.{[], _∷_};
+ghost use lib.ListN.{length};
+ghost use Rattle.grid.specs.Units.{cells};
+ghost use Rattle.methods.specs.Reach.{columnsOf, cellsOfRow, cellsOf};
+ghost use Rattle.methods.specs.Aims.{sliceAim};
+ghost use Rattle.methods.specs.Methods.{isReached, reached};
+ghost use Rattle.methods.specs.Slots.{rowsOfSlot};
+ghost use Rattle.methods.specs.Marks.{withCells};
+ghost use Rattle.choosing.specs.Mark.{noMarks, Marked, CanMarkBlock, CanMarkRow, CanMarkCell, CanMarkReached, CanMarkReachedInRow, CanTest, CanMarkIfReached};
+use crate::bounds::row_of_cell;
+use grid::Cell;
+use methods::Block;
+use methods::Slice;
+use reaching::cell_meets;
+
+// Every mark taken away.
+pub fn clear(marks: &mut [u8])
+    requires { ⌜ length (now marks) ≡ cells ⌝ }
+    ensures { λ u. ⌜ now (marks .exit) ≡ noMarks ⌝ }
+{
+    let mut n = 0;
+    while n < grid::CELLS {
+        marks[n] = 0;
+        n += 1;
+    }
+}
+
+// Marks a cell. Here and below `numbers` is the grid's table of curve numbers, which a pass holds from its first cell to its last.
+fn mark_cell(numbers: &[u16; 1024], c: Cell, marks: &mut [u8])
+    requires { ⌜ CanMarkCell (now numbers) c (now marks) ⌝ }
+    ensures { λ u. ⌜ now (marks .exit) ≡ withCells (now (marks .entry)) (c ∷ []) ⌝ }
+{
+    let n = grid::number_in(numbers, c);
+    marks[n] = 1;
+}
+
+// Marks a block's cells of one row.
+fn mark_row(numbers: &[u16; 1024], b: Block, row: usize, marks: &mut [u8])
+    requires { ⌜ CanMarkRow (now numbers) b row (now marks) ⌝ }
+    ensures { λ u. ⌜ Marked (now (marks .entry)) (cellsOfRow row (b .«first_column») (columnsOf b)) (now (marks .exit)) ⌝ }
+{
+    let mut column = b.first_column;
+    while column <= b.last_column {
+        mark_cell(
+            numbers,
+            Cell {
+                column: column,
+                row: row,
+            },
+            marks,
+        );
+        column += 1;
+    }
+}
+
+// Marks a block's cells.
+pub fn mark_block(b: Block, marks: &mut [u8])
+    requires { ⌜ CanMarkBlock b (now marks) ⌝ }
+    ensures { λ u. ⌜ Marked (now (marks .entry)) (cellsOf b) (now (marks .exit)) ⌝ }
+{
+    let numbers = grid::curve_numbers();
+    let mut row = b.first_row;
+    while row <= b.last_row {
+        mark_row(&numbers, b, row, marks);
+        row += 1;
+    }
+}
+
+// Whether a cell's row is nonempty and the cell, moved by the row's speeds, meets the rectangle.
+pub fn is_reached(numbers: &[u16; 1024], table: &[i16], slot: usize, c: Cell, slice: Slice) -> bool
+    requires { ⌜ CanTest (now numbers) (now table) slot slice c ⌝ }
+    ensures { λ r. ⌜ r ≡ isReached (rowsOfSlot (now (table .entry)) slot) (sliceAim slice) c ⌝ }
+{
+    let row = row_of_cell(numbers, table, slot, c);
+    if row.is_empty() {
+        return false;
+    }
+    cell_meets(slice, c, row)
+}
+
+// Marks a cell if it is reached.
+fn mark_if_reached(
+    numbers: &[u16; 1024],
+    table: &[i16],
+    slot: usize,
+    c: Cell,
+    slice: Slice,
+    marks: &mut [u8],
+)
+    requires { ⌜ CanMarkIfReached (now numbers) (now table) slot slice c (now marks) ⌝ }
+    ensures { λ u. ⌜ Marked (now (marks .entry)) (reached (rowsOfSlot (now (table .entry)) slot) (sliceAim slice) (c ∷ [])) (now (marks .exit)) ⌝ }
+{
+    if !is_reached(numbers, table, slot, c, slice) {
+        return;
+    }
+    mark_cell(numbers, c, marks);
+}
+
+// Marks those of a block's cells of one row that are reached.
+fn mark_reached_in_row(
+    numbers: &[u16; 1024],
+    table: &[i16],
+    slot: usize,
+    b: Block,
+    row: usize,
+    slice: Slice,
+    marks: &mut [u8],
+)
+    requires { ⌜ CanMarkReachedInRow (now numbers) (now table) slot slice b row (now marks) ⌝ }
+    ensures { λ u. ⌜ Marked (now (marks .entry)) (reached (rowsOfSlot (now (table .entry)) slot) (sliceAim slice) (cellsOfRow row (b .«first_column») (columnsOf b))) (now (marks .exit)) ⌝ }
+{
+    let mut column = b.first_column;
+    while column < b.last_column + 1 {
+        mark_if_reached(
+            numbers,
+            table,
+            slot,
+            Cell {
+                column: column,
+                row: row,
+            },
+            slice,
+            marks,
+        );
+        column += 1;
+    }
+}
+
+// Marks those of a block's cells that are reached.
+pub fn mark_reached(table: &[i16], slot: usize, b: Block, slice: Slice, marks: &mut [u8])
+    requires { ⌜ CanMarkReached (now table) slot slice b (now marks) ⌝ }
+    ensures { λ u. ⌜ Marked (now (marks .entry)) (reached (rowsOfSlot (now (table .entry)) slot) (sliceAim slice) (cellsOf b)) (now (marks .exit)) ⌝ }
+{
+    let numbers = grid::curve_numbers();
+    let mut row = b.first_row;
+    while row < b.last_row + 1 {
+        mark_reached_in_row(&numbers, table, slot, b, row, slice, marks);
+        row += 1;
+    }
+}

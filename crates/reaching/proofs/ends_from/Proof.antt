@@ -1,0 +1,31 @@
+-- `reaching::ends_from` meets its contract: the last column has no high end, any other ends 262,143 after its start.
+-- Assumes nothing.
+use Rattle.reaching.proofs.ReachingLaws.{no-high-end, high-end}
+use borrow.Author.Needs.{needs}
+use Rattle.reaching.proofs.ends_from.Statement.{statement}
+use Rattle.reaching.proofs.ends_from.Tie as tie
+
+sub-if1 : tie.Need-sub-if1
+sub-if1 c = search needs
+
+returns : tie.Need-returns
+returns c = search no-high-end
+
+mul-whole : tie.Need-mul-whole
+mul-whole c = search needs
+
+sub-whole : tie.Need-sub-whole
+sub-whole c = search needs
+
+add-whole : tie.Need-add-whole
+add-whole c = search needs
+
+whole-requires : tie.Need-whole-requires
+whole-requires c κs = search needs
+
+returns-2 : tie.Need-returns-2
+returns-2 c = search (high-end, c .before .if1 .left)
+
+pub ends-from-spec : {M : Type 1} → statement M
+ends-from-spec =
+    tie.close (tie.spec sub-if1 returns mul-whole sub-whole add-whole whole-requires returns-2)

@@ -1,0 +1,60 @@
+-- What the functions of reach ask of a timeslice, a row and a cell. The limits keep every sum and product in 64 bits.
+-- Assumes nothing.
+use mathlib.Core.Path.{_≡_}
+use mathlib.Core.Bool.{true}
+use Prim.Native.Nat.{ℕ, suc, _≤_, _<_}
+use lib.IntN.{ℤ, natAbs}
+use Rattle.grid.specs.Units.{side, lastPosition, speedLimit}
+use Rattle.grid.specs.Places.{OnGrid}
+use Rattle.grid.specs.Reports.{isTime, isPosition}
+use Rattle.grid.specs.declared.Cell.{Cell}
+use Rattle.grid.specs.declared.Query.{Query}
+use Rattle.grid.specs.declared.Range.{Range}
+use Rattle.rows.specs.Row.{validRow}
+use Rattle.rows.specs.Phases.{lastPhase}
+use Rattle.rows.specs.declared.Row.{Row}
+use Rattle.methods.specs.Slices.{latest, IsSlice}
+use Rattle.methods.specs.declared.Slice.{Slice}
+
+-- a timeslice whose rectangle has its corners in the sea
+pub record IsAsk (s : Slice) : Type 0 where
+  pub low-x-in-sea : isPosition (s .rect .x .low) ≡ true
+  pub high-x-in-sea : isPosition (s .rect .x .high) ≡ true
+  pub low-y-in-sea : isPosition (s .rect .y .low) ≡ true
+  pub high-y-in-sea : isPosition (s .rect .y .high) ≡ true
+  pub is-slice : IsSlice s
+
+-- to see a query from a phase: no time is past the last one, and no phase past that time's
+pub record CanSee (query : Query) (p : ℕ) : Type 0 where
+  pub is-time : isTime (query .time) ≡ true
+  pub small-phase : p ≤ lastPhase
+
+-- to expand by bounds
+pub record CanExpand (s : Slice) (bounds : Row) : Type 0 where
+  pub ask : IsAsk s
+  pub valid : validRow bounds ≡ true
+
+-- to test a cell moved by its row
+pub record CanMeet (s : Slice) (c : Cell) (row : Row) : Type 0 where
+  pub ask : IsAsk s
+  pub on-grid : OnGrid c
+  pub valid : validRow row ≡ true
+
+-- ---- along one axis: an empty row's speeds are one past the limit
+
+pub record SmallMotion (p v d : ℤ) : Type 0 where
+  pub small-position : natAbs p ≤ lastPosition
+  pub small-speed : natAbs v ≤ suc speedLimit
+  pub small-d : natAbs d ≤ latest
+
+pub record SmallAxis (r : Range) (least greatest d : ℤ) : Type 0 where
+  pub small-low : natAbs (r .low) ≤ lastPosition
+  pub small-high : natAbs (r .high) ≤ lastPosition
+  pub small-least : natAbs least ≤ suc speedLimit
+  pub small-greatest : natAbs greatest ≤ suc speedLimit
+  pub small-d : natAbs d ≤ latest
+
+-- to test a column, or a row of cells, moved by speeds
+pub record CanMoveColumn (i : ℕ) (r : Range) (least greatest d : ℤ) : Type 0 where
+  pub column-on : i < side
+  pub small : SmallAxis r least greatest d

@@ -1,0 +1,128 @@
+// What a timeslice and a cell reach at the speeds of a row. Positions are centimetres, speeds centimetres per second.
+ghost use mathlib.Core.Path.{_≡_};
+ghost use Prim.Native.Nat.{_<_, _^_};
+ghost use lib.IntN.{pos, _-ℤ_, _*ℤ_};
+ghost use Rattle.grid.specs.Units.{side};
+ghost use Rattle.grid.specs.Places.{cellSpan, notBelow, notAbove};
+ghost use Rattle.methods.specs.Reach.{expandedRange, expandedRect, blockOf, movedSpan, meets, movedCellMeets};
+ghost use Rattle.methods.specs.Aims.{sliceOf};
+ghost use Rattle.reaching.specs.Reaching.{CanSee, CanExpand, CanMeet, SmallMotion, SmallAxis, CanMoveColumn};
+use grid::Cell;
+use grid::Query;
+use grid::Range;
+use grid::Rect;
+use methods::Block;
+use methods::Slice;
+use rows::Row;
+
+fn wide(v: i16) -> i64
+    ensures { λ r. ⌜ r ≡ v ⌝ }
+{
+    v as i64
+}
+
+fn whole(n: usize) -> i64
+    requires { ⌜ n < 2 ^ 31 ⌝ }
+    ensures { λ r. ⌜ r ≡ pos n ⌝ }
+{
+    n as i64
+}
+
+// Where a float was d seconds before it was at p, at the speed v.
+fn position_before(p: i64, v: i64, d: i64) -> i64
+    requires { ⌜ SmallMotion p v d ⌝ }
+    ensures { λ r. ⌜ r ≡ p -ℤ v *ℤ d ⌝ }
+{
+    p - v * d
+}
+
+// For both signs of d a speed v leads from p - v * d to p. Below 0 least and greatest are exchanged.
+fn expand_range(range: Range, least: i16, greatest: i16, d: i64) -> Range
+    requires { ⌜ SmallAxis range least greatest d ⌝ }
+    ensures { λ r. ⌜ r ≡ expandedRange range least greatest d ⌝ }
+{
+    if 0 <= d {
+        Range {
+            low: position_before(range.low, wide(greatest), d),
+            high: position_before(range.high, wide(least), d),
+        }
+    } else {
+        Range {
+            low: position_before(range.low, wide(least), d),
+            high: position_before(range.high, wide(greatest), d),
+        }
+    }
+}
+
+// A query seen from phase p.
+pub fn slice_of(query: Query, p: usize) -> Slice
+    requires { ⌜ CanSee query p ⌝ }
+    ensures { λ r. ⌜ r ≡ sliceOf p query ⌝ }
+{
+    let rect = query.rect;
+    let d = query.wide_time() - rows::reference_time(p);
+    Slice { rect, d }
+}
+
+// The rectangle expanded by bounds.
+pub fn expanded(s: Slice, bounds: Row) -> Rect
+    requires { ⌜ CanExpand s bounds ⌝ }
+    ensures { λ r. ⌜ r ≡ expandedRect s bounds ⌝ }
+{
+    Rect {
+        x: expand_range(s.rect.x, bounds.least_vx, bounds.greatest_vx, s.d),
+        y: expand_range(s.rect.y, bounds.least_vy, bounds.greatest_vy, s.d),
+    }
+}
+
+// Whether a cell, moved by its row's speeds, meets the rectangle.
+pub fn cell_meets(s: Slice, c: Cell, row: Row) -> bool
+    requires { ⌜ CanMeet s c row ⌝ }
+    ensures { λ r. ⌜ r ≡ movedCellMeets s c row ⌝ }
+{
+    moved_meets(c.column, row.least_vx, row.greatest_vx, s.rect.x, s.d)
+        && moved_meets(c.row, row.least_vy, row.greatest_vy, s.rect.y, s.d)
+}
+
+// Every cell from the column and row of the low corner to those of the high corner.
+pub fn block_of(q: Rect) -> Block
+    ensures { λ r. ⌜ r ≡ blockOf q ⌝ }
+{
+    Block {
+        first_column: grid::column_of(q.x.low),
+        last_column: grid::column_of(q.x.high),
+        first_row: grid::row_of(q.y.low),
+        last_row: grid::row_of(q.y.high),
+    }
+}
+
+// Whether column i, or row i, starts at z or below. The first has no low end.
+fn starts_by(i: usize, z: i64) -> bool
+    requires { ⌜ i < side ⌝ }
+    ensures { λ r. ⌜ r ≡ notBelow (cellSpan i .low) z ⌝ }
+{
+    if i == 0 {
+        return true;
+    }
+    whole(grid::CELL_SIZE * i) <= z
+}
+
+// Whether column i, or row i, ends at z or above. The last has no high end.
+fn ends_from(i: usize, z: i64) -> bool
+    requires { ⌜ i < side ⌝ }
+    ensures { λ r. ⌜ r ≡ notAbove (cellSpan i .high) z ⌝ }
+{
+    if i == grid::SIDE - 1 {
+        return true;
+    }
+    z <= whole(grid::CELL_SIZE * i + (grid::CELL_SIZE - 1))
+}
+
+// Whether column i, or row i, moved by speeds from least to greatest over d, meets a range: it meets the expanded range where it is.
+fn moved_meets(i: usize, least: i16, greatest: i16, range: Range, d: i64) -> bool
+    requires { ⌜ CanMoveColumn i range least greatest d ⌝ }
+    ensures { λ r. ⌜ r ≡ meets (movedSpan (cellSpan i) least greatest d) range ⌝ }
+{
+    let reach = expand_range(range, least, greatest, d);
+    starts_by(i, reach.high) && ends_from(i, reach.low)
+}
