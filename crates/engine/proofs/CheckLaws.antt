@@ -23,7 +23,7 @@ use Rattle.records.specs.Words.{Words, words, timeIn, recordsIn, areSound}
 use Rattle.records.specs.declared.Record.{Record}
 use Rattle.records.proofs.SoundLaws as Sound
 use Rattle.store.specs.Changes.{steppedRecords}
-use Rattle.store.proofs.KeepLaws.{has-stepped, stepped-length}
+use Rattle.store.proofs.SteppedLaws.{has-stepped, stepped-length}
 use Rattle.words.specs.Words.{stepped}
 use Rattle.words.specs.Needs.{RightLengths, CanStep, CanPlace, CanReplace}
 use Rattle.words.proofs.StepLaws.{stepped-records, stepped-can-change}

@@ -18,8 +18,8 @@ use Rattle.records.specs.Words.{Words, timeIn, recordsIn, areSound}
 use Rattle.reading.specs.Reading.{cellsIn, usefulIn}
 use Rattle.reading.proofs.ReadingLaws.{cells-few}
 use Rattle.store.specs.Changes.{placedIn}
-use Rattle.store.proofs.KeepLaws.{stepped-length}
-use Rattle.store.proofs.OrderLaws.{inserted-length}
+use Rattle.store.proofs.SteppedLaws.{stepped-length}
+use Rattle.store.proofs.InsertedLaws.{inserted-length}
 use Rattle.words.specs.Words.{stepped, takenOut}
 use Rattle.words.specs.Needs.{CanStep}
 use Rattle.words.proofs.StepLaws.{stepped-records}

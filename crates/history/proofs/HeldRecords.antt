@@ -14,14 +14,15 @@ use Rattle.ints.specs.Lists.{passing, some, every}
 use Rattle.ints.proofs.Truth.{and-left, and-right}
 use Rattle.ints.proofs.Same.{same-is}
 use Rattle.rows.specs.Phases.{phaseOf, isLive}
-use Rattle.records.specs.Order.{hasId}
+use Rattle.records.specs.Order.{isSorted, hasId}
 use Rattle.records.specs.Soundness.{isSoundRecord, allSound, idsDistinct}
 use Rattle.store.specs.Changes.{inserted, insertedAll, removed, placedIn, stays, moves, steppedRecords}
 use Rattle.records.specs.declared.Record.{Record}
 use Rattle.records.proofs.SoundLawsKeys.{live-phase-of-key, placed-right}
 use Rattle.records.proofs.SoundLaws.{record-sound}
-use Rattle.store.proofs.OrderLaws.{Ascending, inserted-from, inserted-length, has-inserted, ascending-inserted}
-use Rattle.store.proofs.OrderLaws.{inserted-passes, distinct-inserted, removed-same, removed-other, stepped-kept, stepped-replaced}
+use Rattle.store.proofs.InsertedLaws.{inserted-from, inserted-length, has-inserted, inserted-sorted, inserted-every, inserted-distinct}
+use Rattle.store.proofs.RemovedLaws.{removed-same, removed-other}
+use Rattle.store.proofs.SteppedLaws.{stepped-kept, stepped-replaced}
 use Rattle.ledger.specs.Machine.{Held, Placement, isHeld, without, steppedHeld}
 use Rattle.history.proofs.Relation.{recordOf, recordsOfHeld, heldOnce, GoodHeld}
 
@@ -65,17 +66,17 @@ once-more h hs n o = rw n o
 fresh : (h : Held) (hs : List Held) → heldOnce (h ∷ hs) ≡ true → hasId (h .report .id) (recordsOfHeld hs) ≡ false
 fresh h hs o = records-has (h .report .id) hs ∙ first-once h hs o
 
-pub records-ascending : (hs : List Held) → heldOnce hs ≡ true → Ascending (recordsOfHeld hs)
-unfolding recordsOfHeld
-records-ascending [] o = tt
-records-ascending (h ∷ hs) o =
-    ascending-inserted (recordOf h) (recordsOfHeld hs) (fresh h hs o) (records-ascending hs (rest-once h hs o))
+pub records-sorted : (hs : List Held) → heldOnce hs ≡ true → isSorted (recordsOfHeld hs) ≡ true
+unfolding recordsOfHeld isSorted
+records-sorted [] o = refl
+records-sorted (h ∷ hs) o =
+    inserted-sorted (recordOf h) (recordsOfHeld hs) (records-sorted hs (rest-once h hs o)) (fresh h hs o)
 
 pub records-distinct : (hs : List Held) → heldOnce hs ≡ true → idsDistinct (recordsOfHeld hs) ≡ true
 unfolding recordsOfHeld idsDistinct
 records-distinct [] o = refl
 records-distinct (h ∷ hs) o =
-    distinct-inserted (recordOf h) (recordsOfHeld hs) (fresh h hs o) (records-distinct hs (rest-once h hs o))
+    inserted-distinct (recordOf h) (recordsOfHeld hs) (fresh h hs o) (records-distinct hs (rest-once h hs o))
 
 -- ---- a good held report has a sound record
 
@@ -84,15 +85,11 @@ good-record now ps h g =
     record-sound now (recordOf h) (g .ranged) (g .sent)
     (placed-right now (h .phase) (h .report) (g .live) (leb-true (phaseOf (h .report .t)) (h .phase) (g .not-before)))
 
-sound-more : (now : ℤ) (r : Record) (rs : List Record) → allSound now (r ∷ rs) ≡ isSoundRecord now r && allSound now rs
-unfolding every
-sound-more now r rs = refl
-
 pub records-sound : (now : ℤ) (ps : List Placement) (hs : List Held) → ((h : Held) → List·Memᴰ h hs → GoodHeld now ps h) → allSound now (recordsOfHeld hs) ≡ true
 unfolding recordsOfHeld every
 records-sound now ps [] each = refl
 records-sound now ps (h ∷ hs) each =
-    inserted-passes (allSound now) (isSoundRecord now) (sound-more now) (recordOf h) (recordsOfHeld hs)
+    inserted-every (isSoundRecord now) (recordOf h) (recordsOfHeld hs)
     (good-record now ps h (each h (List·Memᴰ·head refl)))
     (records-sound now ps hs (λ g m. each g (List·Memᴰ·tail m)))
 
@@ -109,7 +106,7 @@ records-removed id (h ∷ hs) o = go (eqZ (h .report .id) id) refl (records-remo
         removed-same id (recordOf h) (recordsOfHeld hs) e
         (ap (λ (z : ℤ). hasId z (recordsOfHeld hs)) (sym (same-is (h .report .id) id e)) ∙ fresh h hs o)
     go false e k =
-        removed-other id (recordOf h) (recordsOfHeld hs) e (records-ascending hs (rest-once h hs o)) ∙ ap (inserted (recordOf h)) k
+        removed-other id (recordOf h) (recordsOfHeld hs) e (records-sorted hs (rest-once h hs o)) ∙ ap (inserted (recordOf h)) k
 
 -- ---- the clock step
 
@@ -131,7 +128,7 @@ records-stepped now time (h ∷ hs) o live =
         → steppedRecords now time (inserted (recordOf h) (recordsOfHeld hs))
         ≡ inserted (recordOf (cond t h (record { report = h .report; phase = phaseOf time }))) (recordsOfHeld (steppedHeld time hs))
     go true e k =
-        stepped-kept (phaseOf time) (stays now time) (moves now time) (recordOf h) (recordsOfHeld hs) (phase ∙ e) (ap not (phase ∙ e)) (fresh h hs o) (records-ascending hs (rest-once h hs o))
+        stepped-kept (phaseOf time) (stays now time) (moves now time) (recordOf h) (recordsOfHeld hs) (phase ∙ e) (ap not (phase ∙ e)) (fresh h hs o) (records-sorted hs (rest-once h hs o))
         ∙ ap (inserted (recordOf h)) k
     go false e k =
         stepped-replaced (phaseOf time) (stays now time) (moves now time) (recordOf h) (recordsOfHeld hs) (phase ∙ e) (ap not (phase ∙ e)) (fresh h hs o)

@@ -36,7 +36,7 @@ use Rattle.store.specs.Changes.{placedIn, stays, moves, replaced, widenedByAll}
 use Rattle.records.specs.declared.Record.{Record}
 use Rattle.records.proofs.SoundLawsKeys.{slot-of-key-in, number-of-key-in}
 use Rattle.records.proofs.SoundLawsRanges.{drift-in-range}
-use Rattle.store.proofs.OrderLaws.{replaced-from}
+use Rattle.store.proofs.SteppedLaws.{replaced-from}
 use Rattle.store.proofs.SpeedLaws.{liesAt, speedsAt, Placeable, newBounds, withOne, bounds-inserted, with-speeds-length, row-with-speeds, none-elsewhere}
 use Rattle.store.proofs.SpeedLaws as Records
 use Rattle.ledger.specs.Machine as Ledger

@@ -22,7 +22,7 @@ use Rattle.records.specs.Soundness.{inOwnRow, allSound, idsDistinct, speedsInRo
 use Rattle.records.specs.Words.{Words, recordsIn, areSound}
 use Rattle.records.specs.declared.Record.{Record}
 use Rattle.records.proofs.SoundLawsKeys.{slot-of-key-in, number-of-key-in}
-use Rattle.store.proofs.OrderLaws.{inserted-passes}
+use Rattle.store.proofs.InsertedLaws.{inserted-every}
 use Rattle.words.proofs.PlaceLaws.{sound-words}
 use Rattle.ledger.specs.Machine.{Ledger, Held, placeIn, speedsPlaced, rowsIn}
 use Rattle.ledger.proofs.MachineLaws.{speed-placed}
@@ -49,15 +49,11 @@ module _ (l : Ledger) (w : Words) (good : Good l) (match : Matches l w) where
       ap (λ (x : Row). holds x (driftOf r)) row
       ∙ holds-within (bounds-hold (speedsPlaced p cell (l .placements)) (speed-placed (l .placements) (g .placed))) (driftOf r) (holds-one (driftOf r))
 
-  speeds-more : (r : Record) (rs : List Record) → speedsInRows (w .table) (r ∷ rs) ≡ inOwnRow (w .table) r && speedsInRows (w .table) rs
-  unfolding every
-  speeds-more r rs = refl
-
   all-held : (hs : List Held) → ((h : Held) → List·Memᴰ h hs → GoodHeld (l .now) (l .placements) h) → speedsInRows (w .table) (recordsOfHeld hs) ≡ true
   unfolding recordsOfHeld every
   all-held [] each = refl
   all-held (h ∷ hs) each =
-      inserted-passes (speedsInRows (w .table)) (inOwnRow (w .table)) speeds-more (recordOf h) (recordsOfHeld hs)
+      inserted-every (inOwnRow (w .table)) (recordOf h) (recordsOfHeld hs)
       (speeds-held h (each h (List·Memᴰ·head refl)))
       (all-held hs (λ g m. each g (List·Memᴰ·tail m)))
 

@@ -119,6 +119,21 @@ passes-some {A} f (b ∷ bs) {a} m h =
     (λ k. or-right (f b) (some f bs) (passes-some f bs k h))
     (List·Memᴰ·cases-cons m)
 
+-- where none passes, each one fails, and none of some of them passes
+pub none-passes : {A : Type 0} (f : A → Bool) (xs : List A) {a : A} → some f xs ≡ false → List·Memᴰ a xs → f a ≡ false
+none-passes f xs {a} n m = false-of (f a) (λ h. true-false (sym (passes-some f xs m h) ∙ n))
+
+pub passing-some : {A : Type 0} (f g : A → Bool) (xs : List A) → some f xs ≡ false → some f (passing g xs) ≡ false
+passing-some f g xs n =
+    false-of (some f (passing g xs)) (λ h.
+    let a = some-passes f (passing g xs) h in
+    true-false (sym (passes-some f xs (passing-in g xs (a .1) .0) (a .2)) ∙ n))
+
+pub some-map : {A B : Type 0} (f : B → Bool) (g : A → B) (xs : List A) → some f (map g xs) ≡ some (λ a. f (g a)) xs
+unfolding some
+some-map f g [] = refl
+some-map f g (x ∷ xs) = ap (λ (t : Bool). f (g x) || t) (some-map f g xs)
+
 -- ---- whether all pass
 
 pub every-each : {A : Type 0} (f : A → Bool) (xs : List A) {a : A} → every f xs ≡ true → List·Memᴰ a xs → f a ≡ true

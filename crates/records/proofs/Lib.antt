@@ -5,3 +5,4 @@ pub mod SoundLawsKeys
 pub mod SoundLawsTurns
 pub mod SoundLawsMarks
 pub mod SoundLaws
+pub mod OrderLaws

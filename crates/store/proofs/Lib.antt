@@ -1,6 +1,7 @@
 pub mod ChangeLaws
-pub mod OrderLaws
+pub mod InsertedLaws
+pub mod RemovedLaws
+pub mod SteppedLaws
 pub mod MergeLaws
-pub mod KeepLaws
 pub mod StepLaws
 pub mod SpeedLaws

@@ -27,7 +27,7 @@ use Rattle.records.proofs.SoundLawsRanges.{last-phase}
 use Rattle.records.proofs.PlaceLaws.{record-at, store-room}
 use Rattle.store.proofs.ChangeLaws.{left-at, words-append}
 use Rattle.store.proofs.MergeLaws.{no-records}
-use Rattle.store.proofs.KeepLaws.{placed-ranged, halves-few}
+use Rattle.store.proofs.SteppedLaws.{placed-ranged, halves-few}
 use Rattle.records.proofs.PlaceLaws.{read-later, rest-at}
 
 -- ---- the phases of a step are those of a time

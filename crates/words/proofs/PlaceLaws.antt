@@ -21,7 +21,7 @@ use Rattle.rows.specs.Table.{validTable, withSlotEmpty}
 use Rattle.rows.proofs.TableLaws.{length-with-row, length-slot-empty}
 use Rattle.records.specs.Records.{nowOf, recordsOf, storeOf}
 use Rattle.records.specs.Order.{slotOfKey, numberOfKey, isSorted, hasId}
-use Rattle.records.specs.Soundness.{allSound, idsDistinct, speedsInRows, isSound, allRanged}
+use Rattle.records.specs.Soundness.{allSound, idsDistinct, speedsInRows, isSound, isRanged, allRanged}
 use Rattle.records.specs.Words.{Words, words, timeIn, recordsIn, areSound}
 use Rattle.records.specs.declared.Record.{Record}
 use Rattle.records.proofs.RecordLaws.{now-of-store, records-of-store, store-of}
@@ -29,8 +29,8 @@ use Rattle.records.proofs.SoundLaws.{parts-sound}
 use Rattle.records.proofs.SoundLawsRanges.{parts-ranged}
 use Rattle.records.proofs.SoundLawsKeys.{key-in-below}
 use Rattle.store.specs.Changes.{inserted, removed, placedIn}
-use Rattle.store.proofs.OrderLaws.{inserted-length}
-use Rattle.store.proofs.KeepLaws.{inserted-sorted, inserted-ranged, removed-sorted, removed-ranged, removed-length}
+use Rattle.store.proofs.InsertedLaws.{inserted-length, inserted-sorted, inserted-every}
+use Rattle.store.proofs.RemovedLaws.{removed-sorted, removed-every, removed-length}
 use Rattle.words.specs.Words.{opened, placed, takenOut}
 use Rattle.words.specs.Needs.{RightLengths, CanChange, CanPlace, CanReplace}
 
@@ -87,7 +87,7 @@ module _ (w : Words) (r : Report) (can : CanReplace w r) where
       let s = can .can-change .is-store in
       record {
         can-change = record {
-          is-store = store-of (timeIn w) left (omega (arith, few)) (removed-ranged (r .id) (recordsIn w) (s .ranged)) (removed-sorted (r .id) (recordsIn w) (s .sorted));
+          is-store = store-of (timeIn w) left (omega (arith, few)) (removed-every isRanged (r .id) (recordsIn w) (s .ranged)) (removed-sorted (r .id) (recordsIn w) (s .sorted));
           whole-table = can .can-change .whole-table;
         };
         room = rw (records-of-store (timeIn w) left) few;
@@ -114,7 +114,7 @@ module _ (w : Words) (can : CanChange w) where
   taken-can-change id =
       let s = can .is-store in
       record {
-        is-store = store-of (timeIn w) (removed id (recordsIn w)) (let f = s .few in omega (arith, removed-few id (recordsIn w))) (removed-ranged id (recordsIn w) (s .ranged))
+        is-store = store-of (timeIn w) (removed id (recordsIn w)) (let f = s .few in omega (arith, removed-few id (recordsIn w))) (removed-every isRanged id (recordsIn w) (s .ranged))
             (removed-sorted id (recordsIn w) (s .sorted));
         whole-table = can .whole-table;
       }
@@ -141,7 +141,7 @@ placed-can-change w r can other =
     let room = can .room in
     let ranged = parts-ranged new (record { report = can .in-range; time = can .is-time; key = key-in-below (phaseOf (r .t)) r }) in
     record {
-      is-store = store-of (timeIn w) (inserted new (recordsIn w)) (omega (arith, inserted-length new (recordsIn w))) (inserted-ranged new (recordsIn w) ranged (s .ranged))
+      is-store = store-of (timeIn w) (inserted new (recordsIn w)) (omega (arith, inserted-length new (recordsIn w))) (inserted-every isRanged new (recordsIn w) ranged (s .ranged))
           (inserted-sorted new (recordsIn w) (s .sorted) other);
       whole-table = length-with-row (w .table) (slotOfKey (new .key)) (numberOfKey (new .key)) _ ∙ can .can-change .whole-table;
     }

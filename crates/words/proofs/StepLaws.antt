@@ -23,7 +23,7 @@ use Rattle.store.specs.Walks.{IsStep}
 use Rattle.store.specs.declared.changes.Step.{Step}
 use Rattle.records.specs.declared.Record.{Record}
 use Rattle.records.proofs.RecordLaws.{now-of-store, records-of-store, store-of}
-use Rattle.store.proofs.KeepLaws.{stepped-few, stepped-ranged, stepped-sorted}
+use Rattle.store.proofs.SteppedLaws.{stepped-few, stepped-ranged, stepped-sorted}
 use Rattle.store.proofs.SpeedLaws.{with-speeds-length}
 use Rattle.records.proofs.SoundLaws as Sound
 use Rattle.records.proofs.SoundLawsKeys.{right-placed}
