@@ -41,9 +41,12 @@ use Rattle.history.specs.Index as H
 use Rattle.history.specs.Index.{LentCall, fed, idsWritten}
 use Rattle.history.specs.Points.{Point}
 use Rattle.history.proofs.Points.{every-point-goes-on}
-use Rattle.lines.specs.Lines.{greatest, letterOf, answerLine, noCallLine, areWritable, AnswerRoom, Written}
+use Rattle.fields.specs.Fields.{greatest}
+use Rattle.fields.specs.Numbers.{areWritable}
+use Rattle.lines.specs.Lines.{letterOf, Written}
+use Rattle.answers.specs.Answers.{answerLine, noCallLine, AnswerRoom}
 use Rattle.lines.specs.Reading.{readLine}
-use Rattle.lines.proofs.LineLaws.{pos-writable, none-writable, more-writable}
+use Rattle.fields.proofs.NumberLaws.{pos-writable, none-writable, more-writable}
 use Rattle.lines.specs.declared.Line.the-variants as Line
 use Rattle.session.specs.Replay.{newline, listLength, fedOf, told, answerTo, next}
 use Rattle.session.specs.Session.{longestAnswer, AtPoint, idsTold, Answers, AnswersLine}

@@ -15,8 +15,12 @@ use Rattle.ledger.specs.Refusals.{firstToFail, isRectangle}
 use Rattle.ledger.specs.Machine.{steppedHeld, newPlacements, livePlacements, stepped, isHeld, without, withReport, withoutId}
 use Rattle.ledger.specs.Machine.{speedsPlaced, rowsIn, listedHeld, isUseful, usefulCells, putInOrder, idsInOrder, summed}
 use Rattle.ledger.specs.Calls as L
-use Rattle.lines.specs.Lines.{digits, written, fieldOf, fields, letterOf, changeNumbers, numbersOf, noCallLine}
-use Rattle.lines.specs.Reading.{withDigit, after, numberOf, seenAt, numbersIn, areNumbers, callOf, countOf, readLine}
+use Rattle.fields.specs.Fields.{digits, written, fieldOf}
+use Rattle.fields.specs.Numbers.{fields}
+use Rattle.lines.specs.Lines.{letterOf, changeNumbers, numbersOf}
+use Rattle.answers.specs.Answers.{noCallLine}
+use Rattle.fields.specs.Reading.{withDigit, after, numberOf, seenAt}
+use Rattle.lines.specs.Reading.{numbersIn, areNumbers, callOf, countOf, readLine}
 use Rattle.lines.specs.Examples.{bytes}
 use Rattle.session.specs.Replay.{answerTo, next, linesFrom, answered, replayed}
 use Rattle.session.specs.Examples.{ended, listing, listingSays, damaged, lastLine, damagedSays}

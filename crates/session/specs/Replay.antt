@@ -12,7 +12,8 @@ use Rattle.ledger.specs.Machine.{Ledger, opened}
 use Rattle.ledger.specs.Calls as L
 use Rattle.ledger.specs.Calls.{Fed, Reply, answerOfOpen}
 use Rattle.ledger.specs.declared.Call.{Call}
-use Rattle.lines.specs.Lines.{letterOf, answerLine, noCallLine}
+use Rattle.lines.specs.Lines.{letterOf}
+use Rattle.answers.specs.Answers.{answerLine, noCallLine}
 use Rattle.lines.specs.Reading.{readLine}
 use Rattle.lines.specs.declared.Line.{Line}
 use Rattle.lines.specs.declared.Line.the-variants as Line

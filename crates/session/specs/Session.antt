@@ -13,7 +13,8 @@ use Rattle.history.specs.Points.{Point}
 use Rattle.records.specs.Words.{words}
 use Rattle.ledger.specs.declared.Answer.{Answer}
 use Rattle.ledger.specs.declared.Answer.the-variants.{Accepted, Listed, Refused}
-use Rattle.lines.specs.Lines.{mostNumbers, mostAnswered, lineLength, letterOf, Written}
+use Rattle.lines.specs.Lines.{mostNumbers, lineLength, letterOf, Written}
+use Rattle.answers.specs.Answers.{mostAnswered}
 use Rattle.lines.specs.declared.Line.{Line}
 use Rattle.session.specs.declared.feeding.Place.{Place}
 use Rattle.session.specs.declared.feeding.Fed.{Fed}

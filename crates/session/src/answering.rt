@@ -32,7 +32,7 @@ fn answer_call(
 {
     let answer = engine::sound::call(store, table, list, call);
     let n = ids_told(answer);
-    lines::writing::write_answer(letter, answer, &list[..n], out)
+    answers::write_answer(letter, answer, &list[..n], out)
 }
 
 fn answer_open(store: &mut [i32], table: &mut [i16], list: &[u16], t: i32, out: &mut [u8]) -> usize
@@ -40,7 +40,7 @@ fn answer_open(store: &mut [i32], table: &mut [i16], list: &[u16], t: i32, out: 
     ensures { λ r. ⌜ Answers (Lines.Open t) (now (store .entry)) (now (table .entry)) (now (store .exit)) (now (table .exit)) (now (out .entry)) (now (out .exit)) r ⌝ }
 {
     let answer = engine::open(store, table, t);
-    lines::writing::write_answer(b'O', answer, &list[..0], out)
+    answers::write_answer(b'O', answer, &list[..0], out)
 }
 
 // A line answered, without a newline: a call's answer has the letter of its line.
@@ -58,7 +58,7 @@ fn answer_said(
     match said {
         Line::Open(t) => answer_open(store, table, list, t, out),
         Line::Call(call) => answer_call(store, table, list, line[0], call, out),
-        Line::NoCall => lines::writing::write_no_call(out),
+        Line::NoCall => answers::write_no_call(out),
     }
 }
 

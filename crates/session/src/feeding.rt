@@ -9,7 +9,9 @@ use crate::answering;
 pub const LINE_BYTES: usize = lines::LONGEST_CALL + 1;
 
 // The bytes of the longest answer, every id listed, with its newline.
-pub const ANSWER_BYTES: usize = 1 + lines::WIDTH * (lines::ANSWER_NUMBERS + records::CAPACITY) + 1;
+pub const ANSWER_BYTES: usize = 1
+    + fields::WIDTH * (answers::ANSWER_NUMBERS + records::CAPACITY)
+    + 1;
 
 // How many bytes of the line are held, and how many bytes of the answers are there to be written.
 pub struct Place {
