@@ -28,8 +28,9 @@ use Rattle.engine.specs.Index.{openOut}
 use Rattle.engine.specs.Gives.{Gives}
 use Rattle.history.specs.Index as H
 use Rattle.history.specs.Points.{Point}
-use Rattle.session.specs.Replay.{listLength}
-use Rattle.session.specs.Session.{Session, begun, sessionAfter, lineBytes, answerBytes, Stands, CanFeed, Feeds, Ends}
+use Rattle.answering.specs.Replay.{listLength}
+use Rattle.answering.specs.Answering.{answerBytes}
+use Rattle.session.specs.Session.{Session, begun, sessionAfter, lineBytes, Stands, CanFeed, Feeds, Ends}
 use Rattle.replay.specs.Program.{Ready, Begins}
 use Rattle.replay.specs.Program.{TakesChunk, TakesRead, isEnd, AnswersRead, Runs, Replays}
 use Rattle.session.specs.declared.feeding.Fed.{Fed}

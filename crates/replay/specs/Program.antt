@@ -15,9 +15,10 @@ use Rattle.history.specs.Points.{Point}
 use Rattle.replay.specs.declared.Turn.{Turn}
 use Rattle.replay.specs.declared.Stop.{Stop}
 use Rattle.replay.specs.declared.Done.{Done}
-use Rattle.session.specs.Replay.{listLength}
+use Rattle.answering.specs.Replay.{listLength}
 use Rattle.records.specs.Words.{words}
-use Rattle.session.specs.Session.{Session, begun, sessionAfter, writtenAtEnd, ledgerAtEnd, lineBytes, answerBytes, Stands, AtPoint}
+use Rattle.answering.specs.Answering.{answerBytes, AtPoint}
+use Rattle.session.specs.Session.{Session, begun, sessionAfter, writtenAtEnd, ledgerAtEnd, lineBytes, Stands}
 
 -- a store and a table of their lengths, whatever they hold
 pub record Lent (store table : List ℤ) : Type 0 where

@@ -4,9 +4,6 @@
 ghost use lib.ListN.{length};
 ghost use Rattle.libc.specs.Io.{Moved};
 ghost use Rattle.replay.specs.Program.{Lent, LentAll, Ready, Begins, TakesChunk, TakesRead, AnswersRead, Runs, Replays};
-
-mod streams;
-
 use session::feeding::LINE_BYTES;
 use session::feeding::feed;
 use session::feeding::finish;

@@ -18,9 +18,10 @@ use Rattle.lines.specs.Reading.{countOf, readLine}
 use Rattle.lines.proofs.ReadingLaws.{few-follow}
 use Rattle.lines.specs.declared.Line.{Line}
 use Rattle.lines.specs.declared.Line.the-variants.{NoCall}
-use Rattle.session.specs.Replay.{newline, listLength, answerTo, next, lineAnswered, afterLine, isEmpty}
+use Rattle.answering.specs.Replay.{newline, listLength, answerTo, next, lineAnswered, afterLine, isEmpty}
 use Rattle.records.specs.Words.{words}
-use Rattle.session.specs.Session.{Session, taking, writing, sessionAfter, writtenFor, lineBytes, answerBytes, Stands, AtPoint, AnswersLine, CanTake, Holds, EndsLine, Takes, Feeds, Ends}
+use Rattle.answering.specs.Answering.{answerBytes, AtPoint, AnswersLine}
+use Rattle.session.specs.Session.{Session, taking, writing, sessionAfter, writtenFor, lineBytes, Stands, CanTake, Holds, EndsLine, Takes, Feeds, Ends}
 use Rattle.session.specs.declared.feeding.Place.{Place}
 
 -- ---- the first bytes of a line

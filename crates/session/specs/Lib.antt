@@ -1,4 +1,2 @@
-pub mod Replay
 pub mod Session
 pub mod Claims
-pub mod Examples

@@ -1,4 +1,4 @@
--- The replay program as a machine that takes one byte at a time, and how its buffers stand to it. That it writes what specs/Replay.antt says is
+-- The replay program as a machine that takes one byte at a time, and how its buffers stand to it. That it writes what answering's Replay says is
 -- claimed in specs/Claims.antt.
 -- Assumes nothing.
 use mathlib.Core.Path.{_≡_}
@@ -11,14 +11,11 @@ use lib.ListN.{length, take}
 use Rattle.ledger.specs.Machine.{Ledger, opened}
 use Rattle.history.specs.Points.{Point}
 use Rattle.records.specs.Words.{words}
-use Rattle.ledger.specs.declared.Answer.{Answer}
-use Rattle.ledger.specs.declared.Answer.the-variants.{Accepted, Listed, Refused}
-use Rattle.lines.specs.Lines.{mostNumbers, lineLength, letterOf, Written}
-use Rattle.answers.specs.Answers.{mostAnswered}
-use Rattle.lines.specs.declared.Line.{Line}
+use Rattle.lines.specs.Lines.{mostNumbers, lineLength}
+use Rattle.answering.specs.Answering.{answerBytes, AtPoint}
 use Rattle.session.specs.declared.feeding.Place.{Place}
 use Rattle.session.specs.declared.feeding.Fed.{Fed}
-use Rattle.session.specs.Replay.{newline, listLength, answerTo, next, lineAnswered, afterLine, isEmpty}
+use Rattle.answering.specs.Replay.{newline, listLength, lineAnswered, afterLine, isEmpty}
 
 -- ---- byte by byte
 
@@ -62,55 +59,12 @@ ledgerAtEnd s = cond (isEmpty (s .line)) (s .ledger) (afterLine (s .ledger) (s .
 abbrev pub lineBytes : ℕ
 lineBytes = lineLength mostNumbers + 1
 
--- the longest answer, every id listed, and with its newline
-abbrev pub longestAnswer : ℕ
-longestAnswer = lineLength (mostAnswered + listLength)
-
-abbrev pub answerBytes : ℕ
-answerBytes = longestAnswer + 1
-
 -- the buffers of a session: store and table at a point of a list whose ledger is the session's, and the first bytes of the line
 pub record Stands (s : Session) (store table : List ℤ) (line : List ℕ) (used : ℕ) : Type 0 where
   pub point : Point (s .ledger) (words store table)
   pub few : used ≤ lineBytes
   pub begins : take used line ≡ take lineBytes (s .line)
   pub long : length line ≡ lineBytes
-
--- store and table are at a point of some list
-pub record AtPoint (store table : List ℤ) : Type 0 where
-  pub ledger : Ledger
-  pub point : Point ledger (words store table)
-
--- ---- what the functions of src/answering.rt ask and leave
-
--- how many ids a call wrote in front of its list
-abbrev pub idsTold : Answer → ℕ
-idsTold (Accepted held) = 0
-idsTold (Listed ids cells useful rounds) = ids
-idsTold (Refused r) = 0
-
--- at a point of some list, with an answer list of its length and room for an answer
-pub record CanAnswer (most : ℕ) (store table : List ℤ) (list out : List ℕ) : Type 0 where
-  pub at-point : AtPoint store table
-  pub list-long : length list ≡ listLength
-  pub room : most ≤ length out
-
--- and the letter of a line
-pub record CanTell (line : Line) (letter : ℕ) (store table : List ℤ) (list out : List ℕ) : Type 0 where
-  pub at-point : AtPoint store table
-  pub list-long : length list ≡ listLength
-  pub room : longestAnswer ≤ length out
-  pub letter-is : letter ≡ letterOf line
-
--- what a line leaves and writes, whatever the list whose point the words are at
-pub record Answers (line : Line) (store table store′ table′ : List ℤ) (out out′ : List ℕ) (filled : ℕ) : Type 0 where
-  pub leads : (l : Ledger) → Point l (words store table) → Point (next l line) (words store′ table′)
-  pub writes : (l : Ledger) → Point l (words store table) → Written (answerTo l line) out out′ filled
-
--- the same of a line's bytes, whose answer ends with a newline
-pub record AnswersLine (line : List ℕ) (store table store′ table′ : List ℤ) (out out′ : List ℕ) (filled : ℕ) : Type 0 where
-  pub leads : (l : Ledger) → Point l (words store table) → Point (afterLine l line) (words store′ table′)
-  pub writes : (l : Ledger) → Point l (words store table) → Written (lineAnswered l line) out out′ filled
 
 -- ---- what the functions of src/feeding.rt ask and leave
 

@@ -5,7 +5,7 @@ use mathlib.Core.List.{List, [], _∷_, _++_}
 use Prim.Native.Nat.{ℕ}
 use Prim.Native.String.{String}
 use Rattle.lines.specs.Examples.{bytes}
-use Rattle.session.specs.Replay.{newline}
+use Rattle.answering.specs.Replay.{newline}
 
 -- lines, each with its newline
 unfoldable pub ended : List String → List ℕ

@@ -1,10 +1,10 @@
--- `replay::streams::write_out` meets its contract.
+-- `streams::write_out` meets its contract.
 -- Assumes nothing.
 use Prim.Native.Nat.{_≤_, _-_}
 use lib.ListN.{length}
 use borrow.Author.Needs.{needs}
-use Rattle.replay.proofs.streams.write_out.Statement.{statement}
-use Rattle.replay.proofs.streams.write_out.Tie as tie
+use Rattle.streams.proofs.write_out.Statement.{statement}
+use Rattle.streams.proofs.write_out.Tie as tie
 
 abbrev Inv-loop : tie.InvT-loop
 Inv-loop out from₀ from = from ≤ length out

@@ -48,8 +48,8 @@ use Rattle.answers.specs.Answers.{answerLine, noCallLine, AnswerRoom}
 use Rattle.lines.specs.Reading.{readLine}
 use Rattle.fields.proofs.NumberLaws.{pos-writable, none-writable, more-writable}
 use Rattle.lines.specs.declared.Line.the-variants as Line
-use Rattle.session.specs.Replay.{newline, listLength, fedOf, told, answerTo, next}
-use Rattle.session.specs.Session.{longestAnswer, AtPoint, idsTold, Answers, AnswersLine}
+use Rattle.answering.specs.Replay.{newline, listLength, fedOf, told, answerTo, next}
+use Rattle.answering.specs.Answering.{longestAnswer, AtPoint, idsTold, Answers, AnswersLine}
 
 -- ---- room for an answer
 

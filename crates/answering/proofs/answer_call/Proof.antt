@@ -1,4 +1,4 @@
--- `session::answering::answer_call` meets its contract: the ids written in front of the list are told.
+-- `answering::answer_call` meets its contract: the ids written in front of the list are told.
 -- Assumes nothing.
 use mathlib.Core.Path.{sym}
 use native.Mathlib.Omega.{arith}
@@ -7,11 +7,11 @@ use lib.Seq.{length-take-le}
 use Prim.Native.Nat.{_≤_}
 use lib.ListN.{length}
 use Rattle.records.specs.Words.{Words, words}
-use Rattle.session.specs.Session.{idsTold}
-use Rattle.session.proofs.AnswerLaws.{point-sound, told-fits, told-few, answers-made}
+use Rattle.answering.specs.Answering.{idsTold}
+use Rattle.answering.proofs.AnswerLaws.{point-sound, told-fits, told-few, answers-made}
 use borrow.Author.Needs.{needs}
-use Rattle.session.proofs.answering.answer_call.Statement.{statement}
-use Rattle.session.proofs.answering.answer_call.Tie as tie
+use Rattle.answering.proofs.answer_call.Statement.{statement}
+use Rattle.answering.proofs.answer_call.Tie as tie
 
 -- the entry
 abbrev start : tie.After-call → tie.Start

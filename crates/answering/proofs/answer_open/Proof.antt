@@ -1,4 +1,4 @@
--- `session::answering::answer_open` meets its contract: the ledger opens where the index does.
+-- `answering::answer_open` meets its contract: the ledger opens where the index does.
 -- Assumes nothing.
 use mathlib.Core.Path.{sym, subst}
 use mathlib.Core.List.{[]}
@@ -11,10 +11,10 @@ use Rattle.engine.specs.Index.{openOut}
 use Rattle.engine.specs.Gives.{Gives}
 use Rattle.engine.proofs.SmallAnswers.{SmallAnswer, open-small}
 use Rattle.lines.specs.Lines.{letterOf}
-use Rattle.session.proofs.AnswerLaws.{answer-room, answers-open}
+use Rattle.answering.proofs.AnswerLaws.{answer-room, answers-open}
 use borrow.Author.Needs.{needs}
-use Rattle.session.proofs.answering.answer_open.Statement.{statement}
-use Rattle.session.proofs.answering.answer_open.Tie as tie
+use Rattle.answering.proofs.answer_open.Statement.{statement}
+use Rattle.answering.proofs.answer_open.Tie as tie
 
 -- the entry
 abbrev start : tie.After-open → tie.Start

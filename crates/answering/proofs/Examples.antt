@@ -22,8 +22,8 @@ use Rattle.answers.specs.Answers.{noCallLine}
 use Rattle.fields.specs.Reading.{withDigit, after, numberOf, seenAt}
 use Rattle.lines.specs.Reading.{numbersIn, areNumbers, callOf, countOf, readLine}
 use Rattle.lines.specs.Examples.{bytes}
-use Rattle.session.specs.Replay.{answerTo, next, linesFrom, answered, replayed}
-use Rattle.session.specs.Examples.{ended, listing, listingSays, damaged, lastLine, damagedSays}
+use Rattle.answering.specs.Replay.{answerTo, next, linesFrom, answered, replayed}
+use Rattle.answering.specs.Examples.{ended, listing, listingSays, damaged, lastLine, damagedSays}
 
 pub listing-is-replayed : replayed (ended listing) ≡ ended listingSays
 unfolding listing listingSays replayed answered linesFrom answerTo next ended bytes readLine countOf numbersOf changeNumbers callOf numbersIn areNumbers seenAt numberOf

@@ -1,12 +1,12 @@
--- `replay::streams::read_chunk` meets its contract.
+-- `streams::read_chunk` meets its contract.
 -- Assumes nothing.
 use mathlib.Core.Path.{_≡_}
 use lib.ListN.{length}
 use mir.Syntax.{w64}
 use Rattle.ints.proofs.Machine.{held}
 use borrow.Author.Needs.{needs}
-use Rattle.replay.proofs.streams.read_chunk.Statement.{statement}
-use Rattle.replay.proofs.streams.read_chunk.Tie as tie
+use Rattle.streams.proofs.read_chunk.Statement.{statement}
+use Rattle.streams.proofs.read_chunk.Tie as tie
 
 abbrev Inv-loop : tie.InvT-loop
 Inv-loop chunk₀ turns₀ chunk turns = length chunk ≡ length chunk₀

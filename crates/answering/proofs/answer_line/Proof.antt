@@ -1,4 +1,4 @@
--- `session::answering::answer_line` meets its contract: the newline stands right behind the answer.
+-- `answering::answer_line` meets its contract: the newline stands right behind the answer.
 -- Assumes nothing.
 use mathlib.Core.Path.{sym}
 use Prim.Native.Nat.{_-_, _<_}
@@ -6,10 +6,10 @@ use native.Mathlib.Omega.{arith}
 use denote.Ref.{now}
 use lib.ListN.{length}
 use lib.Seq.{length-take-le, length-front}
-use Rattle.session.proofs.AnswerLaws.{line-short, line-answered}
+use Rattle.answering.proofs.AnswerLaws.{line-short, line-answered}
 use borrow.Author.Needs.{needs}
-use Rattle.session.proofs.answering.answer_line.Statement.{statement}
-use Rattle.session.proofs.answering.answer_line.Tie as tie
+use Rattle.answering.proofs.answer_line.Statement.{statement}
+use Rattle.answering.proofs.answer_line.Tie as tie
 
 abbrev start : tie.After-answer-said → tie.Start
 start c = let s = c .before .before .before .before in s .before .before .before .before

@@ -1,4 +1,4 @@
--- `session::answering::answer_said` meets its contract: a case for each line; a line that is read to a call begins with the call's letter.
+-- `answering::answer_said` meets its contract: a case for each line; a line that is read to a call begins with the call's letter.
 -- Assumes nothing.
 use mathlib.Core.Path.{_≡_, sym, subst, _∙_}
 use mathlib.Core.List.{List}
@@ -14,10 +14,10 @@ use Rattle.lines.specs.declared.Line.the-variants as Line
 use Rattle.lines.specs.Lines.{letterOf}
 use Rattle.lines.specs.Reading.{readLine}
 use Rattle.lines.proofs.Claims.{letter-read}
-use Rattle.session.proofs.AnswerLaws.{answers-no-call}
+use Rattle.answering.proofs.AnswerLaws.{answers-no-call}
 use borrow.Author.Needs.{needs}
-use Rattle.session.proofs.answering.answer_said.Statement.{statement}
-use Rattle.session.proofs.answering.answer_said.Tie as tie
+use Rattle.answering.proofs.answer_said.Statement.{statement}
+use Rattle.answering.proofs.answer_said.Tie as tie
 
 -- the entry, and the line
 abbrev start : tie.After-read-call → tie.Start

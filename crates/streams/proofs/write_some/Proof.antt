@@ -1,8 +1,8 @@
--- `replay::streams::write_some` meets its contract.
+-- `streams::write_some` meets its contract.
 -- Assumes nothing.
 use borrow.Author.Needs.{needs}
-use Rattle.replay.proofs.streams.write_some.Statement.{statement}
-use Rattle.replay.proofs.streams.write_some.Tie as tie
+use Rattle.streams.proofs.write_some.Statement.{statement}
+use Rattle.streams.proofs.write_some.Tie as tie
 
 abbrev Inv-loop : tie.InvT-loop
 Inv-loop out turns₀ turns = Unit {0}

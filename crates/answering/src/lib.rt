@@ -3,7 +3,7 @@
 ghost use mathlib.Core.Path.{_≡_};
 ghost use Rattle.lines.specs.declared.Line.the-variants as Lines;
 ghost use Rattle.lines.specs.Reading.{readLine};
-ghost use Rattle.session.specs.Session.{answerBytes, longestAnswer, idsTold, CanAnswer, CanTell, Answers, AnswersLine};
+ghost use Rattle.answering.specs.Answering.{answerBytes, longestAnswer, idsTold, CanAnswer, CanTell, Answers, AnswersLine};
 use ledger::Answer;
 use ledger::Call;
 use lines::Line;
