@@ -1,2 +1,2 @@
-pub mod FeedLaws
+pub mod FeedingLaws
 pub mod Claims

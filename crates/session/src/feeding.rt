@@ -2,7 +2,7 @@
 // so the memory does not grow with it.
 ghost use Prim.Native.Nat.{_≤_, _+_};
 ghost use lib.ListN.{length};
-ghost use Rattle.session.specs.Session.{CanTake, CanFeed, Holds, EndsLine, Takes, Feeds, Ends};
+ghost use Rattle.session.specs.Feeding.{CanTake, CanFeed, Holds, EndsLine, Takes, Feeds, Ends};
 
 // How many bytes of a line are held: one more than the longest call line has, so that a longer line is told from it.
 pub const LINE_BYTES: usize = lines::LONGEST_CALL + 1;

@@ -8,7 +8,7 @@ use Prim.Native.Nat.{_≤_}
 use lib.ListN.{length}
 use Rattle.records.specs.Words.{Words, words}
 use Rattle.answering.specs.Answering.{idsTold}
-use Rattle.answering.proofs.AnswerLaws.{point-sound, told-fits, told-few, answers-made}
+use Rattle.answering.proofs.AnsweringLaws.{point-sound, told-fits, told-few, answers-made}
 use borrow.Author.Needs.{needs}
 use Rattle.answering.proofs.answer_call.Statement.{statement}
 use Rattle.answering.proofs.answer_call.Tie as tie

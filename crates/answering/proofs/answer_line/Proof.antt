@@ -6,7 +6,7 @@ use native.Mathlib.Omega.{arith}
 use denote.Ref.{now}
 use lib.ListN.{length}
 use lib.Seq.{length-take-le, length-front}
-use Rattle.answering.proofs.AnswerLaws.{line-short, line-answered}
+use Rattle.answering.proofs.AnsweringLaws.{line-short, line-answered}
 use borrow.Author.Needs.{needs}
 use Rattle.answering.proofs.answer_line.Statement.{statement}
 use Rattle.answering.proofs.answer_line.Tie as tie

@@ -11,7 +11,7 @@ use Rattle.engine.specs.Index.{openOut}
 use Rattle.engine.specs.Gives.{Gives}
 use Rattle.engine.proofs.SmallAnswers.{SmallAnswer, open-small}
 use Rattle.lines.specs.Lines.{letterOf}
-use Rattle.answering.proofs.AnswerLaws.{answer-room, answers-open}
+use Rattle.answering.proofs.AnsweringLaws.{answer-room, answers-open}
 use borrow.Author.Needs.{needs}
 use Rattle.answering.proofs.answer_open.Statement.{statement}
 use Rattle.answering.proofs.answer_open.Tie as tie

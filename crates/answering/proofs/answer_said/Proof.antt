@@ -14,7 +14,7 @@ use Rattle.lines.specs.declared.Line.the-variants as Line
 use Rattle.lines.specs.Lines.{letterOf}
 use Rattle.lines.specs.Reading.{readLine}
 use Rattle.lines.proofs.Claims.{letter-read}
-use Rattle.answering.proofs.AnswerLaws.{answers-no-call}
+use Rattle.answering.proofs.AnsweringLaws.{answers-no-call}
 use borrow.Author.Needs.{needs}
 use Rattle.answering.proofs.answer_said.Statement.{statement}
 use Rattle.answering.proofs.answer_said.Tie as tie

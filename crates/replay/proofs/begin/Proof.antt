@@ -1,6 +1,6 @@
 -- `replay::begin` meets its contract.
 -- Assumes nothing.
-use Rattle.replay.proofs.ChunkLaws.{begins}
+use Rattle.replay.proofs.ProgramLaws.{begins}
 use borrow.Author.Needs.{needs}
 use Rattle.replay.proofs.begin.Statement.{statement}
 use Rattle.replay.proofs.begin.Tie as tie

@@ -4,7 +4,7 @@ use mathlib.Core.Path.{sym}
 use native.Mathlib.Omega.{arith}
 use lib.Seq.{length-take-le}
 use Rattle.session.specs.Session.{begun, Stands}
-use Rattle.replay.proofs.ChunkLaws.{begun-stands, begun-ready, replays-stopped, replays-ended}
+use Rattle.replay.proofs.ProgramLaws.{begun-stands, begun-ready, replays-stopped, replays-ended}
 use borrow.Author.Needs.{needs}
 use Rattle.replay.proofs.replay.Statement.{statement}
 use Rattle.replay.proofs.replay.Tie as tie

@@ -21,7 +21,8 @@ use Rattle.lines.specs.declared.Line.the-variants.{NoCall}
 use Rattle.answering.specs.Replay.{newline, listLength, answerTo, next, lineAnswered, afterLine, isEmpty}
 use Rattle.records.specs.Words.{words}
 use Rattle.answering.specs.Answering.{answerBytes, AtPoint, AnswersLine}
-use Rattle.session.specs.Session.{Session, taking, writing, sessionAfter, writtenFor, lineBytes, Stands, CanTake, Holds, EndsLine, Takes, Feeds, Ends}
+use Rattle.session.specs.Session.{Session, taking, writing, sessionAfter, writtenFor, lineBytes, Stands}
+use Rattle.session.specs.Feeding.{CanTake, Holds, EndsLine, Takes, Feeds, Ends}
 use Rattle.session.specs.declared.feeding.Place.{Place}
 
 -- ---- the first bytes of a line

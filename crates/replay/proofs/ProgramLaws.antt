@@ -30,13 +30,13 @@ use Rattle.history.specs.Index as H
 use Rattle.history.specs.Points.{Point}
 use Rattle.answering.specs.Replay.{listLength}
 use Rattle.answering.specs.Answering.{answerBytes}
-use Rattle.session.specs.Session.{Session, begun, sessionAfter, lineBytes, Stands, CanFeed, Feeds, Ends}
-use Rattle.replay.specs.Program.{Ready, Begins}
-use Rattle.replay.specs.Program.{TakesChunk, TakesRead, isEnd, AnswersRead, Runs, Replays}
+use Rattle.session.specs.Session.{Session, begun, sessionAfter, lineBytes, Stands}
+use Rattle.session.specs.Feeding.{CanFeed, Feeds, Ends}
+use Rattle.replay.specs.Program.{Ready, Begins, TakesChunk, TakesRead, isEnd, AnswersRead, Runs, Replays}
 use Rattle.session.specs.declared.feeding.Fed.{Fed}
 use Rattle.replay.specs.declared.Turn.{Turn}
 use Rattle.replay.specs.declared.Stop.{Stop}
-use Rattle.session.proofs.FeedLaws.{alone}
+use Rattle.session.proofs.FeedingLaws.{alone}
 use Rattle.session.proofs.Claims.{chunks-are-one-input}
 
 -- ---- the start
