@@ -24,7 +24,8 @@ use Rattle.engine.specs.Index.{checksOf, settled, openOut, clockOut, changeOut,
 use Rattle.history.specs.Index as Index
 use Rattle.history.specs.Index.{LentCall, fedAll, idsWritten}
 use Rattle.history.proofs.Claims.{every-history-is-the-ledgers}
-use Rattle.capi.specs.Replies.{reportOf, askOf, Replies, RepliesList}
+use Rattle.grid.specs.Reports.{reportOf}
+use Rattle.capi.specs.Replies.{askOf, Replies, RepliesList}
 use Rattle.capi.specs.Hosts.{HostCall, clock, add, report, drop, ask, callOf, listOf, fed, Seen, idsIn, seenOf, Changes, Asks, Made, AllMade, none, one, HostsSeeTheLedger}
 use Rattle.capi.specs.declared.Reply.{Reply}
 

@@ -4,8 +4,7 @@ use mathlib.Core.Path.{_≡_}
 use mathlib.Core.List.{List}
 use Prim.Native.Nat.{ℕ}
 use lib.IntN.{ℤ}
-use Rattle.grid.specs.declared.Rect.{Rect}
-use Rattle.grid.specs.declared.Report.{Report}
+use Rattle.grid.specs.Reports.{rectOf}
 use Rattle.records.specs.Words.{Words}
 use Rattle.ledger.specs.Answers.{numberOf, valueOf, countsOf}
 use Rattle.ledger.specs.declared.Answer.{Answer}
@@ -29,14 +28,6 @@ replyOf answer =
 -- those of an answer that is no accepted ask's
 abbrev pub plain : ℕ → ℕ → Reply
 plain number value = record { number = number; value = value; cells = 0; useful = 0; rounds = 0 }
-
--- the numbers of a report, and of a rectangle: low corner, high corner
-abbrev pub reportOf : ℤ → ℤ → ℤ → ℤ → ℤ → ℤ → Report
-reportOf id t x y vx vy = record { id = id; t = t; x = x; y = y; vx = vx; vy = vy }
-
-abbrev pub rectOf : ℤ → ℤ → ℤ → ℤ → Rect
-rectOf lowX lowY highX highY =
-    record { x = record { low = lowX; high = highX }; y = record { low = lowY; high = highY } }
 
 -- an ask: the method, the asked time, the rectangle
 abbrev pub askOf : ℤ → ℤ → ℤ → ℤ → ℤ → ℤ → Ask

@@ -4,12 +4,11 @@ ghost use mathlib.Core.Path.{_≡_};
 ghost use Rattle.records.specs.Words.{words, areSound};
 ghost use Rattle.ledger.specs.declared.Change.the-variants as Change;
 ghost use Rattle.engine.specs.Index.{openOut, clockOut, changeOut, askOut};
-ghost use Rattle.capi.specs.Replies.{replyOf, plain, reportOf, askOf, Replies, RepliesList};
+ghost use Rattle.grid.specs.Reports.{reportOf};
+ghost use Rattle.capi.specs.Replies.{replyOf, plain, askOf, Replies, RepliesList};
 use grid::Query;
-use grid::Range;
 use grid::Rect;
 use grid::Report;
-use grid::wide_signed;
 use ledger::Answer;
 use ledger::Ask;
 
@@ -71,16 +70,7 @@ fn ask_of(method: i32, asked: i32, low_x: i32, low_y: i32, high_x: i32, high_y: 
     Ask {
         method: method,
         query: Query {
-            rect: Rect {
-                x: Range {
-                    low: wide_signed(low_x),
-                    high: wide_signed(high_x),
-                },
-                y: Range {
-                    low: wide_signed(low_y),
-                    high: wide_signed(high_y),
-                },
-            },
+            rect: Rect::of(low_x, low_y, high_x, high_y),
             time: asked,
         },
     }

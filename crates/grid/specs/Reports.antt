@@ -31,6 +31,16 @@ inRange r =
     isId (r .id)
     && ((isPosition (r .x) && isPosition (r .y)) && (isSpeed (r .vx) && isSpeed (r .vy)))
 
+-- ---- by their numbers, in the order in which a line and an exported call have them
+
+abbrev pub reportOf : ℤ → ℤ → ℤ → ℤ → ℤ → ℤ → Report
+reportOf id t x y vx vy = record { id = id; t = t; x = x; y = y; vx = vx; vy = vy }
+
+-- low corner, high corner
+abbrev pub rectOf : ℤ → ℤ → ℤ → ℤ → Rect
+rectOf lowX lowY highX highY =
+    record { x = record { low = lowX; high = highX }; y = record { low = lowY; high = highY } }
+
 -- ---- where the float is at time s: x + vx × (s - t), y + vy × (s - t), exactly
 
 unfoldable pub xAt : Report → ℤ → ℤ

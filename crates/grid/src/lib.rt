@@ -5,7 +5,7 @@ ghost use Prim.Native.Nat.{_≤_, _^_};
 ghost use lib.IntN.{natAbs, _-ℤ_};
 ghost use Rattle.grid.specs.Places.{positionAfter, columnOf, rowOf, cellOf, OnGrid};
 ghost use Rattle.grid.specs.Curve.{curveNumber, IsCurve};
-ghost use Rattle.grid.specs.Reports.{xAt, yAt, cellAtTime, inRect, isListed};
+ghost use Rattle.grid.specs.Reports.{rectOf, xAt, yAt, cellAtTime, inRect, isListed};
 ghost use Rattle.grid.specs.Small.{SmallAxis, SmallReport};
 ghost use Rattle.ints.specs.Whole.{between};
 
@@ -136,6 +136,22 @@ impl Range {
 }
 
 impl Rect {
+    // By its low corner and its high corner.
+    pub fn of(low_x: i32, low_y: i32, high_x: i32, high_y: i32) -> Rect
+        ensures { λ r. ⌜ r ≡ rectOf «low_x» «low_y» «high_x» «high_y» ⌝ }
+    {
+        Rect {
+            x: Range {
+                low: wide_signed(low_x),
+                high: wide_signed(high_x),
+            },
+            y: Range {
+                low: wide_signed(low_y),
+                high: wide_signed(high_y),
+            },
+        }
+    }
+
     pub fn holds(self, x: i64, y: i64) -> bool
         ensures { λ r. ⌜ r ≡ inRect self x y ⌝ }
     {

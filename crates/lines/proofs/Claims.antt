@@ -18,10 +18,12 @@ use Rattle.ledger.specs.declared.Change.the-variants as Change
 use Rattle.ledger.specs.declared.Call.the-variants as Call
 use Rattle.lines.specs.declared.Line.{Line}
 use Rattle.lines.specs.declared.Line.the-variants as Line
-use Rattle.lines.specs.Lines.{areWritable, lineOf, lineLength, letterOf, changeNumbers, numbersOf, callLine}
+use Rattle.fields.specs.Numbers.{areWritable}
+use Rattle.lines.specs.Lines.{lineOf, lineLength, letterOf, changeNumbers, numbersOf, callLine}
 use Rattle.lines.specs.Reading.{numbersIn, areNumbers, hasNumbers, callOf, countOf, readLine}
 use Rattle.lines.specs.Claims.{ReadWritten, WrittenRead}
-use Rattle.lines.proofs.LineLaws.{length-fields, numbers-written, good-written, line-read}
+use Rattle.fields.proofs.NumberLaws.{length-fields}
+use Rattle.lines.proofs.LineLaws.{numbers-written, good-written, line-read}
 
 -- ---- a written line is read
 

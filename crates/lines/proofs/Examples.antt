@@ -2,12 +2,14 @@
 -- Assumes nothing.
 use mathlib.Core.Path.{_≡_, refl}
 use mathlib.Core.List.{map, _++_}
-use Prim.Native.Char.{code}
 use Prim.Native.String.{String}
 use Rattle.lines.specs.declared.Line.the-variants.{NoCall}
-use Rattle.lines.specs.Lines.{digits, written, fieldOf, fields, letterOf, changeNumbers, numbersOf, callLine, answerLine, noCallLine}
-use Rattle.lines.specs.Reading.{withDigit, after, numberOf, seenAt, numbersIn, areNumbers, callOf, countOf, readLine}
-use Rattle.lines.specs.Examples.{bytes, Said, listing, Answered, answered, shortList, limits, damaged}
+use Rattle.fields.specs.Fields.{digits, written, fieldOf}
+use Rattle.fields.specs.Numbers.{fields}
+use Rattle.lines.specs.Lines.{letterOf, changeNumbers, numbersOf, callLine}
+use Rattle.fields.specs.Reading.{withDigit, after, numberOf, seenAt}
+use Rattle.lines.specs.Reading.{numbersIn, areNumbers, callOf, countOf, readLine}
+use Rattle.lines.specs.Examples.{bytes, Said, listing, limits, damaged}
 
 pub listing-is-read : map (λ (s : Said). readLine (bytes (s .line))) (listing ++ limits) ≡ map (λ (s : Said). s .call) (listing ++ limits)
 unfolding bytes listing limits readLine countOf numbersOf changeNumbers callOf numbersIn areNumbers seenAt numberOf after withDigit
@@ -16,18 +18,6 @@ listing-is-read = refl
 pub listing-is-written : map (λ (s : Said). callLine (s .call)) (listing ++ limits) ≡ map (λ (s : Said). bytes (s .line)) (listing ++ limits)
 unfolding bytes listing limits callLine letterOf numbersOf changeNumbers fields fieldOf written digits
 listing-is-written = refl
-
-pub answers-are-written : map (λ (a : Answered). answerLine (code (a .letter)) (a .answer) (a .ids)) answered ≡ map (λ (a : Answered). bytes (a .line)) answered
-unfolding bytes answered fields fieldOf written digits
-answers-are-written = refl
-
-pub refused-is-written : answerLine (code (shortList .letter)) (shortList .answer) (shortList .ids) ≡ bytes (shortList .line)
-unfolding bytes fields fieldOf written digits
-refused-is-written = refl
-
-pub no-call-is-written : noCallLine ≡ bytes "?         9         0"
-unfolding bytes noCallLine letterOf fields fieldOf written digits
-no-call-is-written = refl
 
 pub damaged-are-no-calls : map (λ (s : String). readLine (bytes s)) damaged ≡ map (λ (s : String). NoCall) damaged
 unfolding bytes damaged readLine countOf numbersOf changeNumbers callOf numbersIn areNumbers seenAt numberOf after withDigit

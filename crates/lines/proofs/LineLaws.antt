@@ -1,89 +1,31 @@
--- The numbers of a line: where each written field stands, what the fields of a line are that is read, and numbers put one after the other.
+-- The numbers of a line: a letter and fields put into bytes, what a written line is read to, and what the fields of a line are that is read.
 -- Assumes nothing.
 use mathlib.Core.Path.{_≡_, refl, sym, ap, ap₂, _∙_}
 use mathlib.Core.Bool.{true}
-use mathlib.Core.List.{List, [], _∷_, _++_, append-assoc, append-nil, map}
+use mathlib.Core.List.{List, [], _∷_, _++_, append-nil}
 use Prim.Native.Nat.{ℕ, zero, suc, _+_, _*_, _≤_, _<_}
-use native.Mathlib.Nat.{add-zero}
-use native.Mathlib.Numerals.{add-one}
 use native.Mathlib.Omega.{arith}
-use borrow.Author.Tests.{le-leb, leb-true}
 use lib.IntN.{ℤ, pos}
-use lib.ListN.{length, getD, take, drop, length-append, drop-of-length-le}
-use lib.Seq.{take-at, drop-append-add, drop-drop, take-add, take-all, take-suc, drop-cons}
-use mir.Syntax.{w32}
-use mir.Facts.{toZ-ofZ}
-use Rattle.ints.proofs.Machine.{back, fits}
-use Rattle.ints.proofs.Truth.{and-true, and-left, and-right}
-use Rattle.lines.specs.Lines.{fieldOf, isWritable, fields, areWritable, lineOf, lineLength, greatest, Written}
-use Rattle.lines.specs.Reading.{number, nth, nthField, numbersIn, areNumbers}
-use Rattle.lines.specs.Writing.{put}
-use Rattle.lines.proofs.ColumnLaws.{in-range, length-field}
-use Rattle.lines.proofs.FieldLaws.{part, written-field, read-field-is}
-use Rattle.lines.proofs.PutLaws.{put-put, put-field, put-none, put-front}
-
--- ---- numbers in range
-
-pub pos-writable : (n : ℕ) → n ≤ greatest → isWritable (pos n) ≡ true
-pos-writable n h = le-leb n greatest h
-
--- a number that a line may have is read back from a word as it is
-pub writable-back : (z : ℤ) → isWritable z ≡ true → back w32 z ≡ z
-writable-back z h = toZ-ofZ (fits (omega (arith, in-range z h)))
-
-module _ (z : ℤ) (zs : List ℤ) where
-  pub first-writable : areWritable (z ∷ zs) ≡ true → isWritable z ≡ true
-  unfolding areWritable
-  first-writable h = and-left (isWritable z) (areWritable zs) h
-
-  pub rest-writable : areWritable (z ∷ zs) ≡ true → areWritable zs ≡ true
-  unfolding areWritable
-  rest-writable h = and-right (isWritable z) (areWritable zs) h
-
-  pub more-writable : isWritable z ≡ true → areWritable zs ≡ true → areWritable (z ∷ zs) ≡ true
-  unfolding areWritable
-  more-writable h k = and-true _ _ h k
-
-pub none-writable : areWritable [] ≡ true
-unfolding areWritable
-none-writable = refl
-
-pub writable-at : (zs : List ℤ) (i : ℕ) → areWritable zs ≡ true → i < length zs → isWritable (nth zs i) ≡ true
-writable-at [] i h l = absurd (omega arith)
-writable-at (z ∷ zs) zero h l = first-writable z zs h
-writable-at (z ∷ zs) (suc i) h l = writable-at zs i (rest-writable z zs h) (omega arith)
-
--- the i-th of some numbers above 0
-pub small-at : (ns : List ℕ) (i n : ℕ) → areWritable (map pos ns) ≡ true → i < length (map pos ns) → nth (map pos ns) i ≡ pos n → n ≤ greatest
-small-at ns i n h l e = leb-true n greatest (ap isWritable (sym e) ∙ writable-at (map pos ns) i h l)
-
-pub ids-writable : (ids : List ℕ) → ((i : ℕ) → getD ids i 0 < 65536) → areWritable (map pos ids) ≡ true
-ids-writable [] f = none-writable
-ids-writable (id ∷ ids) f = more-writable (pos id) (map pos ids) (pos-writable id (omega (arith, f 0))) (ids-writable ids (λ i. f (suc i)))
+use lib.ListN.{length, getD, take, drop, length-append, set}
+use lib.Seq.{drop-drop, take-add, take-all, take-suc}
+use Rattle.ints.proofs.Truth.{and-left, and-right}
+use Rattle.fields.specs.Numbers.{fields, areWritable, nth}
+use Rattle.fields.proofs.NumberLaws.{writable-at, length-fields, fields-append, part-of-fields}
+use Rattle.lines.specs.Lines.{lineOf, lineLength, Written}
+use Rattle.fields.specs.Reading.{number}
+use Rattle.lines.specs.Reading.{nthField, numbersIn, areNumbers}
+use Rattle.fields.specs.Put.{put}
+use Rattle.fields.proofs.FieldLaws.{part, written-field, read-field-is}
+use Rattle.fields.proofs.PutLaws.{put-put, put-none, put-front, put-last}
 
 -- ---- a written line
 
-pub length-fields : (zs : List ℤ) → areWritable zs ≡ true → length (fields zs) ≡ 10 * length zs
-unfolding fields
-length-fields [] h = refl
-length-fields (z ∷ zs) h =
-    length-append (fieldOf z) (fields zs)
-    ∙ omega (arith, length-field z (first-writable z zs h), length-fields zs (rest-writable z zs h))
-
-fields-append : (xs ys : List ℤ) → fields (xs ++ ys) ≡ fields xs ++ fields ys
-unfolding fields
-fields-append [] ys = refl
-fields-append (x ∷ xs) ys =
-    ap (λ (t : List ℕ). fieldOf x ++ t) (fields-append xs ys) ∙ sym (append-assoc (fieldOf x) (fields xs) (fields ys))
-
-part-of-fields : (zs : List ℤ) (i : ℕ) → areWritable zs ≡ true → i < length zs → part (fields zs) (10 * i) 10 ≡ fieldOf (nth zs i)
-unfolding fields
-part-of-fields [] i h l = absurd (omega arith)
-part-of-fields (z ∷ zs) zero h l = take-at (fieldOf z) (fields zs) 10 (length-field z (first-writable z zs h))
-part-of-fields (z ∷ zs) (suc i) h l =
-    let e : 10 * suc i ≡ length (fieldOf z) + 10 * i = omega (arith, length-field z (first-writable z zs h)) in
-    ap (take 10) (ap (λ (j : ℕ). drop j (fieldOf z ++ fields zs)) e ∙ drop-append-add (fieldOf z) (fields zs) (10 * i))
-    ∙ part-of-fields zs i (rest-writable z zs h) (omega arith)
+-- a letter, and the fields after it
+pub put-line : (out : List ℕ) (letter : ℕ) (zs : List ℤ) → 0 < length out → put (set out 0 letter) 1 (fields zs) ≡ lineOf letter zs ++ drop (length (lineOf letter zs)) out
+put-line out letter zs h =
+    ap (λ (t : List ℕ). put t 1 (fields zs)) (sym (put-last out 0 [] letter h ∙ put-none (set out 0 letter) 0))
+    ∙ put-put out 0 (letter ∷ []) (fields zs) (omega arith)
+    ∙ put-front out (lineOf letter zs)
 
 module _ (letter : ℕ) (zs : List ℤ) (h : areWritable zs ≡ true) where
   -- each field of a written line is read to its number
@@ -123,34 +65,6 @@ pub line-read : (line : List ℕ) (k : ℕ) → length line ≡ lineLength k →
 line-read [] k h g = absurd (omega arith)
 line-read (b ∷ bs) k h g =
     ap (λ (t : List ℕ). b ∷ t) (sym (take-all (10 * k) bs (omega arith)) ∙ fields-read (b ∷ bs) k (omega arith) g)
-
--- ---- numbers put one after the other
-
--- what is left to put from the i-th number on
-abbrev pub left : ℕ → List ℤ → List ℕ → ℕ → List ℕ
-left at zs out i = put out (at + 10 * i) (fields (drop i zs))
-
-pub left-all : (at : ℕ) (zs : List ℤ) (out : List ℕ) → put out at (fields zs) ≡ left at zs out 0
-left-all at zs out = ap (λ (i : ℕ). put out i (fields zs)) (sym (add-zero at))
-
-pub left-none : (at : ℕ) (zs : List ℤ) (out : List ℕ) (i : ℕ) → length zs ≤ i → left at zs out i ≡ out
-unfolding fields
-left-none at zs out i h =
-    ap (λ (t : List ℤ). put out (at + 10 * i) (fields t)) (drop-of-length-le zs h) ∙ put-none out (at + 10 * i)
-
-pub left-next :
-    (at : ℕ) (zs : List ℤ) (out out′ : List ℕ) (i : ℕ)
-    → at + 10 * i ≤ length out
-    → i < length zs
-    → isWritable (nth zs i) ≡ true
-    → out′ ≡ put out (at + 10 * i) (fieldOf (nth zs i))
-    → left at zs out i ≡ left at zs out′ (i + 1)
-left-next at zs out out′ i h l w e =
-    let next : at + 10 * i + 10 ≡ at + 10 * (i + 1) = omega arith in
-    ap (λ (t : List ℤ). put out (at + 10 * i) (fields t)) (drop-cons zs i (pos 0) l)
-    ∙ put-field out (at + 10 * i) (nth zs i) (drop (suc i) zs) h w
-    ∙ ap (λ (t : List ℕ). put t (at + 10 * i + 10) (fields (drop (suc i) zs))) (sym e)
-    ∙ ap₂ (λ (p j : ℕ). put out′ p (fields (drop j zs))) next (sym (add-one i))
 
 -- a line, and further fields behind it
 pub line-more :

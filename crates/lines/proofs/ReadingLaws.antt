@@ -2,63 +2,26 @@
 -- numbers. Of the bytes, 32 is a blank, 45 is "-", 48 to 57 are the digits.
 -- Assumes nothing.
 use mathlib.Core.Path.{_≡_, refl, sym, ap, ap₂, _∙_}
-use mathlib.Core.Bool.{Bool, true, false, cond, _&&_}
+use mathlib.Core.Bool.{Bool, true, false, _&&_}
 use mathlib.Core.List.{List, [], _∷_, _++_, append-assoc}
-use Prim.Native.Nat.{ℕ, zero, suc, _+_, _-_, _*_, _^_, _≤_, _<_}
-use native.Mathlib.Nat.{pow-succ', pow-le-pow-right}
+use Prim.Native.Nat.{ℕ, zero, suc, _+_, _-_, _≤_, _<_}
 use native.Mathlib.Numerals.{add-one}
 use native.Mathlib.Omega.{arith}
-use borrow.Author.Tests.{leb-true, eq-eqb, ne-eqb}
-use lib.Dec.{eqb, leb, lit<, lit≤}
+use borrow.Author.Tests.{eq-eqb, ne-eqb}
+use lib.Dec.{lit≤}
 use lib.IntN.{ℤ, pos}
 use lib.ListN.{length, getD, set, replicate, length-append}
 use lib.Seq.{set-at}
 use Rattle.ints.proofs.Parts.{true-false}
-use Rattle.ints.proofs.Truth.{and-right}
 use Rattle.ledger.specs.declared.Change.the-variants as Change
 use Rattle.ledger.specs.declared.Call.the-variants as Call
 use Rattle.lines.specs.declared.Line.{Line}
 use Rattle.lines.specs.declared.Line.the-variants as Line
-use Rattle.lines.specs.declared.reading.Field.{Field}
+use Rattle.fields.specs.declared.reading.Field.{Field}
 use Rattle.lines.specs.declared.reading.Numbers.{Numbers}
-use Rattle.lines.specs.declared.reading.Seen.{Seen}
-use Rattle.lines.specs.declared.reading.Seen.the-variants.{Blanks, Minus, Zero, Digits, Other}
 use Rattle.lines.specs.Lines.{lineLength, mostNumbers, changeNumbers, numbersOf}
-use Rattle.lines.specs.Reading.{sizeSeen, withDigit, after, seenAt, nth, nthField, numbersIn, areNumbers, callOf, countOf, readLine, Reads}
-
-with-digit-size : (negative : Bool) (n b : ℕ) → sizeSeen (withDigit negative n b) ≤ 10 * n + 9
-unfolding withDigit
-with-digit-size negative n b = go (leb 48 b && leb b 57) refl
-  where
-    go : (t : Bool) → leb 48 b && leb b 57 ≡ t → sizeSeen (cond (leb 48 b && leb b 57) (Digits negative (10 * n + (b - 48))) Other) ≤ 10 * n + 9
-    go true e = rw e (omega (arith, leb-true b 57 (and-right (leb 48 b) (leb b 57) e)))
-    go false e = rw e (omega arith)
-
--- of two things seen, one is picked by a test
-either-size : (t : Bool) (a b : Seen) (m : ℕ) → sizeSeen a ≤ m → sizeSeen b ≤ m → sizeSeen (cond t a b) ≤ m
-either-size true a b m h k = h
-either-size false a b m h k = k
-
-after-size : (s : Seen) (b : ℕ) → sizeSeen (after s b) ≤ 10 * sizeSeen s + 9
-unfolding after
-after-size Blanks b =
-    either-size (eqb b 32) _ _ 9 (omega arith) (either-size (eqb b 45) _ _ 9 (omega arith) (either-size (eqb b 48) _ _ 9 (omega arith) (with-digit-size false 0 b)))
-after-size Minus b = either-size (eqb b 48) _ _ 9 (omega arith) (with-digit-size true 0 b)
-after-size Zero b = omega arith
-after-size (Digits negative n) b = with-digit-size negative n b
-after-size Other b = omega arith
-
-pub seen-size : (line : List ℕ) (at k : ℕ) → sizeSeen (seenAt line at k) < 10 ^ k
-unfolding seenAt
-seen-size line at zero = omega arith
-seen-size line at (suc k) =
-    omega (arith, pow-succ' 10 k, after-size (seenAt line at k) (getD line (at + k) 0), seen-size line at k)
-
-pub seen-small : (line : List ℕ) (at k : ℕ) → k < 10 → sizeSeen (seenAt line at k) < 10 ^ 10
-seen-small line at k h =
-    omega (arith, seen-size line at k, pow-le-pow-right {n = 10} (lit< tt) {i = k} {j = 10} (omega arith))
-
--- ---- a line
+use Rattle.fields.specs.Numbers.{nth}
+use Rattle.lines.specs.Reading.{nthField, numbersIn, areNumbers, callOf, countOf, readLine, Reads}
 
 few-numbers : (line : Line) → length (numbersOf line) ≤ mostNumbers
 unfolding numbersOf changeNumbers

@@ -6,7 +6,8 @@ use mathlib.Core.List.{List}
 use Prim.Native.Nat.{ℕ}
 use Rattle.lines.specs.declared.Line.{Line}
 use Rattle.lines.specs.declared.Line.the-variants.{NoCall}
-use Rattle.lines.specs.Lines.{numbersOf, areWritable, callLine}
+use Rattle.fields.specs.Numbers.{areWritable}
+use Rattle.lines.specs.Lines.{numbersOf, callLine}
 use Rattle.lines.specs.Reading.{readLine}
 
 -- reading a written call line returns that call, for every call whose numbers a line may have

@@ -1,97 +1,23 @@
-// A call line and an answer line written, each in front of some bytes whose rest is kept.
+// A call line written in front of some bytes whose rest is kept.
 ghost use mathlib.Core.Path.{_≡_};
 ghost use mathlib.Core.Bool.{true};
-ghost use mathlib.Core.List.{map, [], _∷_};
-ghost use Prim.Native.Nat.{_+_, _*_, _<_, _≤_};
-ghost use lib.ListN.{length};
-ghost use lib.IntN.{pos, natAbs};
-ghost use Rattle.ledger.specs.declared.Answer.the-variants as Answers;
+ghost use Prim.Native.Nat.{_+_, _*_};
 ghost use Rattle.ledger.specs.declared.Call.the-variants as Calls;
-ghost use Rattle.lines.specs.Lines.{width, digit, fieldOf, isWritable, fields, areWritable, lineLength, lineOf, reportNumbers};
-ghost use Rattle.lines.specs.Lines.{changeNumbers, rectNumbers, askNumbers, numbersOf, callLine, answerLine, noCallLine, Room, AnswerRoom, Written};
-ghost use Rattle.lines.specs.Writing.{byteOf, leadAfter, tenColumns, leadOf, put, cornersOf, FieldRoom, FieldsRoom};
+ghost use Rattle.fields.specs.Fields.{isWritable};
+ghost use Rattle.fields.specs.Numbers.{areWritable};
+ghost use Rattle.lines.specs.Lines.{lineOf, reportNumbers, changeNumbers, rectNumbers, askNumbers, numbersOf, callLine, Room, Written};
+ghost use Rattle.lines.specs.Writing.{cornersOf};
 use crate::Line;
-use crate::WIDTH;
+use fields::WIDTH;
+use fields::numbers::write_numbers;
 use grid::Rect;
 use grid::Report;
-use ledger::Answer;
 use ledger::Ask;
 use ledger::Call;
 use ledger::Change;
 
-// ---- one number
-
-fn digit_of(d: usize) -> u8
-    requires { ⌜ d < 10 ⌝ }
-    ensures { λ r. ⌜ r ≡ digit d ⌝ }
-{
-    b'0' + (d as u8)
-}
-
-fn byte_of(lead: u8, left: usize) -> u8
-    ensures { λ r. ⌜ r ≡ byteOf lead left ⌝ }
-{
-    if left == 0 { lead } else { digit_of(left % 10) }
-}
-
-fn lead_after(lead: u8, left: usize) -> u8
-    ensures { λ r. ⌜ r ≡ leadAfter lead left ⌝ }
-{
-    if left == 0 { b' ' } else { lead }
-}
-
-// The ten columns of n from a place on, written from the right to the left, with `lead` before its digits.
-fn write_columns(out: &mut [u8], at: usize, lead: u8, n: usize)
-    requires { ⌜ at + width ≤ length (now out) ⌝ }
-    ensures { λ u. ⌜ now (out .exit) ≡ put (now (out .entry)) at (tenColumns lead n) ⌝ }
-{
-    let mut k = WIDTH - 1;
-    let mut left = n / 10;
-    let mut front = lead;
-    out[at + k] = digit_of(n % 10);
-    while 0 < k {
-        k -= 1;
-        out[at + k] = byte_of(front, left);
-        front = lead_after(front, left);
-        left = left / 10;
-    }
-}
-
-fn lead_of(z: i32) -> u8
-    ensures { λ r. ⌜ r ≡ leadOf z ⌝ }
-{
-    if z < 0 { b'-' } else { b' ' }
-}
-
-fn size_of(z: i32) -> usize
-    requires { ⌜ isWritable z ≡ true ⌝ }
-    ensures { λ r. ⌜ r ≡ natAbs z ⌝ }
-{
-    if z < 0 { (0 - z) as usize } else { z as usize }
-}
-
-fn write_field(out: &mut [u8], at: usize, z: i32)
-    requires { ⌜ FieldRoom at z (now out) ⌝ }
-    ensures { λ u. ⌜ now (out .exit) ≡ put (now (out .entry)) at (fieldOf z) ⌝ }
-{
-    write_columns(out, at, lead_of(z), size_of(z));
-}
-
-// ---- lines
-
-// The fields of some numbers from a place on.
-fn write_numbers(out: &mut [u8], at: usize, numbers: &[i32])
-    requires { ⌜ FieldsRoom at (now numbers) (now out) ⌝ }
-    ensures { λ u. ⌜ now (out .exit) ≡ put (now (out .entry)) at (fields (now (numbers .entry))) ⌝ }
-{
-    let mut i = 0;
-    while i < numbers.len() {
-        write_field(out, at + WIDTH * i, numbers[i]);
-        i += 1;
-    }
-}
-
-fn write_line(letter: u8, numbers: &[i32], out: &mut [u8]) -> usize
+// A letter and some numbers.
+pub fn write_line(letter: u8, numbers: &[i32], out: &mut [u8]) -> usize
     requires { ⌜ Room (now numbers) (now out) ⌝ }
     ensures { λ r. ⌜ Written (lineOf letter (now (numbers .entry))) (now (out .entry)) (now (out .exit)) r ⌝ }
 {
@@ -182,87 +108,5 @@ pub fn write_call(line: Line, out: &mut [u8]) -> usize
             Call::Ask(ask) => write_ask(ask, out),
         },
         Line::NoCall => 0,
-    }
-}
-
-// ---- an answer line
-
-// The letter, the number and the value returned.
-fn write_start(letter: u8, number: usize, value: usize, out: &mut [u8]) -> usize
-    requires { ⌜ Room (pos number ∷ pos value ∷ []) (now out) ⌝ }
-    ensures { λ r. ⌜ Written (lineOf letter (pos number ∷ pos value ∷ [])) (now (out .entry)) (now (out .exit)) r ⌝ }
-{
-    let numbers = [crate::above(number), crate::above(value)];
-    write_line(letter, &numbers, out)
-}
-
-// The line of what is no call: `?`, 9, 0.
-pub fn write_no_call(out: &mut [u8]) -> usize
-    requires { ⌜ lineLength 2 ≤ length (now out) ⌝ }
-    ensures { λ r. ⌜ Written noCallLine (now (out .entry)) (now (out .exit)) r ⌝ }
-{
-    write_start(b'?', 9, 0, out)
-}
-
-fn wide_id(id: u16) -> usize
-    ensures { λ r. ⌜ r ≡ id ⌝ }
-{
-    id as usize
-}
-
-// The fields of some ids from a place on.
-fn write_ids(out: &mut [u8], at: usize, ids: &[u16])
-    requires { ⌜ at + width * length (now ids) ≤ length (now out) ⌝ }
-    ensures { λ u. ⌜ now (out .exit) ≡ put (now (out .entry)) at (fields (map pos (now (ids .entry)))) ⌝ }
-{
-    let mut i = 0;
-    while i < ids.len() {
-        write_columns(out, at + WIDTH * i, b' ', wide_id(ids[i]));
-        i += 1;
-    }
-}
-
-// An accepted ask's line: the ids listed, cells, useful and rounds, then the ids.
-fn write_listing(
-    letter: u8,
-    listed: usize,
-    cells: usize,
-    useful: usize,
-    rounds: usize,
-    ids: &[u16],
-    out: &mut [u8],
-) -> usize
-    requires { ⌜ AnswerRoom (Answers.Listed listed cells useful rounds) (now ids) (now out) ⌝ }
-    ensures { λ r. ⌜ Written (answerLine letter (Answers.Listed listed cells useful rounds) (now (ids .entry))) (now (out .entry)) (now (out .exit)) r ⌝ }
-{
-    let numbers = [
-        0,
-        crate::above(listed),
-        crate::above(cells),
-        crate::above(useful),
-        crate::above(rounds),
-    ];
-    let end = write_line(letter, &numbers, out);
-    write_ids(out, end, ids);
-    end + WIDTH * ids.len()
-}
-
-// An answer's line in front, the rest kept; the bytes written are returned.
-pub fn write_answer(letter: u8, answer: Answer, ids: &[u16], out: &mut [u8]) -> usize
-    requires { ⌜ AnswerRoom answer (now ids) (now out) ⌝ }
-    ensures { λ r. ⌜ Written (answerLine letter answer (now (ids .entry))) (now (out .entry)) (now (out .exit)) r ⌝ }
-{
-    match answer {
-        Answer::Accepted(held) => write_start(letter, 0, held, out),
-        Answer::Listed(listed, cells, useful, rounds) => write_listing(
-            letter,
-            listed,
-            cells,
-            useful,
-            rounds,
-            ids,
-            out,
-        ),
-        Answer::Refused(why) => write_start(letter, why.number(), why.value(), out),
     }
 }

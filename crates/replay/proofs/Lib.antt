@@ -1,1 +1,1 @@
-pub mod ChunkLaws
+pub mod ProgramLaws

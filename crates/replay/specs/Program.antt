@@ -15,9 +15,23 @@ use Rattle.history.specs.Points.{Point}
 use Rattle.replay.specs.declared.Turn.{Turn}
 use Rattle.replay.specs.declared.Stop.{Stop}
 use Rattle.replay.specs.declared.Done.{Done}
-use Rattle.session.specs.Replay.{listLength}
+use Rattle.answering.specs.Replay.{listLength}
 use Rattle.records.specs.Words.{words}
-use Rattle.session.specs.Session.{Session, begun, sessionAfter, writtenAtEnd, ledgerAtEnd, lineBytes, Stands, AtPoint}
+use Rattle.answering.specs.Answering.{answerBytes, AtPoint}
+use Rattle.session.specs.Session.{Session, begun, sessionAfter, writtenAtEnd, ledgerAtEnd, lineBytes, Stands}
+
+-- a store and a table of their lengths, whatever they hold
+pub record Lent (store table : List ℤ) : Type 0 where
+  pub store-long : length store ≡ storeWords
+  pub table-long : length table ≡ tableWords
+
+-- the program's buffers, whatever they hold
+pub record LentAll (store table : List ℤ) (list line out : List ℕ) : Type 0 where
+  pub store-long : length store ≡ storeWords
+  pub table-long : length table ≡ tableWords
+  pub list-long : length list ≡ listLength
+  pub line-long : length line ≡ lineBytes
+  pub room : answerBytes ≤ length out
 
 -- at a point of some list, with buffers of their lengths
 pub record Ready (store table : List ℤ) (list line : List ℕ) (used : ℕ) : Type 0 where

@@ -1,18 +1,9 @@
 // The replay program: document 01, "Lines". It opens the index at 0, reads call lines from standard input to its end, and answers each on standard
 // output. What a chunk of input is answered is written before the next chunk is read, so one who types gets an answer to each line, and the memory
 // does not grow with the input. Where a read or a write failed it stops there: a line that is cut off is no line, and gets no answer.
-ghost use mathlib.Core.Path.{_≡_};
-ghost use Prim.Native.Nat.{_≤_};
 ghost use lib.ListN.{length};
 ghost use Rattle.libc.specs.Io.{Moved};
-ghost use Rattle.rows.specs.Table.{tableWords};
-ghost use Rattle.records.specs.Records.{storeWords};
-ghost use Rattle.session.specs.Replay.{listLength};
-ghost use Rattle.session.specs.Session.{lineBytes, answerBytes};
-ghost use Rattle.replay.specs.Program.{Ready, Begins, TakesChunk, TakesRead, AnswersRead, Runs, Replays};
-
-mod streams;
-
+ghost use Rattle.replay.specs.Program.{Lent, LentAll, Ready, Begins, TakesChunk, TakesRead, AnswersRead, Runs, Replays};
 use session::feeding::LINE_BYTES;
 use session::feeding::feed;
 use session::feeding::finish;
@@ -46,7 +37,7 @@ pub struct Done {
 
 // The program opens at 0.
 fn begin(store: &mut [i32], table: &mut [i16])
-    requires { ⌜ (length (now store) ≡ storeWords) × (length (now table) ≡ tableWords) ⌝ }
+    requires { ⌜ Lent (now store) (now table) ⌝ }
     ensures { λ u. ⌜ Begins (now (store .exit)) (now (table .exit)) ⌝ }
 {
     engine::open(store, table, 0);
@@ -179,7 +170,7 @@ fn replay(
     chunk: &mut [u8],
     out: &mut [u8],
 ) -> Done
-    requires { ⌜ (length (now store) ≡ storeWords) × (length (now table) ≡ tableWords) × (length (now list) ≡ listLength) × (length (now line) ≡ lineBytes) × (answerBytes ≤ length (now out)) ⌝ }
+    requires { ⌜ LentAll (now store) (now table) (now list) (now line) (now out) ⌝ }
     ensures { λ r. ⌜ Replays (now (store .exit)) (now (table .exit)) (now (line .exit)) (now (out .exit)) r ⌝ }
 {
     begin(store, table);

@@ -6,7 +6,7 @@ use mathlib.Core.List.{List, [], _∷_, _++_, append-assoc, append-nil}
 use Prim.Native.Nat.{ℕ}
 use lib.Dec.{eqb}
 use Rattle.ledger.specs.Machine.{Ledger}
-use Rattle.session.specs.Replay.{newline, lineAnswered, afterLine, linesFrom, answered, replayed}
+use Rattle.answering.specs.Replay.{newline, lineAnswered, afterLine, linesFrom, answered, replayed}
 use Rattle.session.specs.Session.{Session, begun, taking, writing, sessionAfter, writtenFor, writtenAtEnd}
 use Rattle.session.specs.Claims.{BytesAreTheLines, ChunksAreOneInput}
 

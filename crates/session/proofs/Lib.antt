@@ -1,4 +1,2 @@
-pub mod FeedLaws
+pub mod FeedingLaws
 pub mod Claims
-pub mod AnswerLaws
-pub mod Examples

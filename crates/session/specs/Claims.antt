@@ -4,7 +4,7 @@
 use mathlib.Core.Path.{_≡_}
 use mathlib.Core.List.{List, _++_}
 use Prim.Native.Nat.{ℕ}
-use Rattle.session.specs.Replay.{replayed}
+use Rattle.answering.specs.Replay.{replayed}
 use Rattle.session.specs.Session.{Session, begun, sessionAfter, writtenFor, writtenAtEnd}
 
 abbrev pub BytesAreTheLines : Type 0

@@ -1,4 +1,3 @@
-pub mod Replay
 pub mod Session
+pub mod Feeding
 pub mod Claims
-pub mod Examples

@@ -1,23 +1,18 @@
--- The replay program as a machine that takes one byte at a time, and how its buffers stand to it. That it writes what specs/Replay.antt says is
+-- The replay program as a machine that takes one byte at a time, and how its buffers stand to it. That it writes what answering's Replay says is
 -- claimed in specs/Claims.antt.
 -- Assumes nothing.
 use mathlib.Core.Path.{_≡_}
 use mathlib.Core.Bool.{cond}
 use mathlib.Core.List.{List, [], _∷_, _++_}
-use Prim.Native.Nat.{ℕ, _+_, _<_, _≤_}
+use Prim.Native.Nat.{ℕ, _+_, _≤_}
 use lib.Dec.{eqb}
 use lib.IntN.{ℤ, pos}
 use lib.ListN.{length, take}
 use Rattle.ledger.specs.Machine.{Ledger, opened}
 use Rattle.history.specs.Points.{Point}
 use Rattle.records.specs.Words.{words}
-use Rattle.ledger.specs.declared.Answer.{Answer}
-use Rattle.ledger.specs.declared.Answer.the-variants.{Accepted, Listed, Refused}
-use Rattle.lines.specs.Lines.{mostNumbers, mostAnswered, lineLength, letterOf, Written}
-use Rattle.lines.specs.declared.Line.{Line}
-use Rattle.session.specs.declared.feeding.Place.{Place}
-use Rattle.session.specs.declared.feeding.Fed.{Fed}
-use Rattle.session.specs.Replay.{newline, listLength, answerTo, next, lineAnswered, afterLine, isEmpty}
+use Rattle.lines.specs.Lines.{mostNumbers, lineLength}
+use Rattle.answering.specs.Replay.{newline, lineAnswered, afterLine, isEmpty}
 
 -- ---- byte by byte
 
@@ -61,97 +56,9 @@ ledgerAtEnd s = cond (isEmpty (s .line)) (s .ledger) (afterLine (s .ledger) (s .
 abbrev pub lineBytes : ℕ
 lineBytes = lineLength mostNumbers + 1
 
--- the longest answer, every id listed, and with its newline
-abbrev pub longestAnswer : ℕ
-longestAnswer = lineLength (mostAnswered + listLength)
-
-abbrev pub answerBytes : ℕ
-answerBytes = longestAnswer + 1
-
 -- the buffers of a session: store and table at a point of a list whose ledger is the session's, and the first bytes of the line
 pub record Stands (s : Session) (store table : List ℤ) (line : List ℕ) (used : ℕ) : Type 0 where
   pub point : Point (s .ledger) (words store table)
   pub few : used ≤ lineBytes
   pub begins : take used line ≡ take lineBytes (s .line)
   pub long : length line ≡ lineBytes
-
--- store and table are at a point of some list
-pub record AtPoint (store table : List ℤ) : Type 0 where
-  pub ledger : Ledger
-  pub point : Point ledger (words store table)
-
--- ---- what the functions of src/answering.rt ask and leave
-
--- how many ids a call wrote in front of its list
-abbrev pub idsTold : Answer → ℕ
-idsTold (Accepted held) = 0
-idsTold (Listed ids cells useful rounds) = ids
-idsTold (Refused r) = 0
-
--- at a point of some list, with an answer list of its length and room for an answer
-pub record CanAnswer (most : ℕ) (store table : List ℤ) (list out : List ℕ) : Type 0 where
-  pub at-point : AtPoint store table
-  pub list-long : length list ≡ listLength
-  pub room : most ≤ length out
-
--- and the letter of a line
-pub record CanTell (line : Line) (letter : ℕ) (store table : List ℤ) (list out : List ℕ) : Type 0 where
-  pub at-point : AtPoint store table
-  pub list-long : length list ≡ listLength
-  pub room : longestAnswer ≤ length out
-  pub letter-is : letter ≡ letterOf line
-
--- what a line leaves and writes, whatever the list whose point the words are at
-pub record Answers (line : Line) (store table store′ table′ : List ℤ) (out out′ : List ℕ) (filled : ℕ) : Type 0 where
-  pub leads : (l : Ledger) → Point l (words store table) → Point (next l line) (words store′ table′)
-  pub writes : (l : Ledger) → Point l (words store table) → Written (answerTo l line) out out′ filled
-
--- the same of a line's bytes, whose answer ends with a newline
-pub record AnswersLine (line : List ℕ) (store table store′ table′ : List ℤ) (out out′ : List ℕ) (filled : ℕ) : Type 0 where
-  pub leads : (l : Ledger) → Point l (words store table) → Point (afterLine l line) (words store′ table′)
-  pub writes : (l : Ledger) → Point l (words store table) → Written (lineAnswered l line) out out′ filled
-
--- ---- what the functions of src/feeding.rt ask and leave
-
--- at a point of some list, with a list and a line of their lengths, and room for one more answer
-pub record CanTake (store table : List ℤ) (list line out : List ℕ) (at : Place) : Type 0 where
-  pub at-point : AtPoint store table
-  pub list-long : length list ≡ listLength
-  pub line-long : length line ≡ lineBytes
-  pub few : at .held ≤ lineBytes
-  pub room : at .filled + answerBytes ≤ length out
-
--- the same before the first answer
-abbrev pub CanFeed : List ℤ → List ℤ → List ℕ → List ℕ → ℕ → List ℕ → Type 0
-CanFeed store table list line used out = CanTake store table list line out (record { held = used; filled = 0 })
-
--- one more byte of a line held, of those that fit
-pub record Holds (line line′ : List ℕ) (used b used′ : ℕ) : Type 0 where
-  pub bytes : take used′ line′ ≡ take (length line) (take used line ++ b ∷ [])
-  pub few : used′ ≤ length line
-
--- the bytes held answered as a line, behind the answers before it
-pub record EndsLine (line : List ℕ) (at : Place) (store table store′ table′ : List ℤ) (out out′ : List ℕ) (filled : ℕ) : Type 0 where
-  pub leads : (l : Ledger) → Point l (words store table) → Point (afterLine l (take (at .held) line)) (words store′ table′)
-  pub writes : (l : Ledger) → Point l (words store table) → take filled out′ ≡ take (at .filled) out ++ lineAnswered l (take (at .held) line)
-  pub fits : filled ≤ length out′
-
--- one byte taken, whatever the session that the buffers stand for
-pub record Takes (b : ℕ) (store table store′ table′ : List ℤ) (line line′ out out′ : List ℕ) (at at′ : Place) : Type 0 where
-  pub stands : (s : Session) → Stands s store table line (at .held) → Stands (taking s b) store′ table′ line′ (at′ .held)
-  pub writes : (s : Session) → Stands s store table line (at .held) → take (at′ .filled) out′ ≡ take (at .filled) out ++ writing s b
-  pub fits : at′ .filled ≤ length out′
-
--- the first `taken` bytes of a chunk taken, one at least where there is one; the caller goes on from there
-pub record Feeds (chunk : List ℕ) (store table store′ table′ : List ℤ) (line line′ out′ : List ℕ) (used : ℕ) (fed : Fed) : Type 0 where
-  pub stands : (s : Session) → Stands s store table line used → Stands (sessionAfter s (take (fed .taken) chunk)) store′ table′ line′ (fed .held)
-  pub writes : (s : Session) → Stands s store table line used → take (fed .filled) out′ ≡ writtenFor s (take (fed .taken) chunk)
-  pub within : fed .taken ≤ length chunk
-  pub goes-on : 0 < length chunk → 0 < fed .taken
-  pub fits : fed .filled ≤ length out′
-
--- the line that lacks its newline answered
-pub record Ends (store table store′ table′ : List ℤ) (line out′ : List ℕ) (used filled : ℕ) : Type 0 where
-  pub leads : (s : Session) → Stands s store table line used → Point (ledgerAtEnd s) (words store′ table′)
-  pub writes : (s : Session) → Stands s store table line used → take filled out′ ≡ writtenAtEnd s
-  pub fits : filled ≤ length out′

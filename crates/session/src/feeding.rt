@@ -2,14 +2,15 @@
 // so the memory does not grow with it.
 ghost use Prim.Native.Nat.{_≤_, _+_};
 ghost use lib.ListN.{length};
-ghost use Rattle.session.specs.Session.{CanTake, CanFeed, Holds, EndsLine, Takes, Feeds, Ends};
-use crate::answering;
+ghost use Rattle.session.specs.Feeding.{CanTake, CanFeed, Holds, EndsLine, Takes, Feeds, Ends};
 
 // How many bytes of a line are held: one more than the longest call line has, so that a longer line is told from it.
 pub const LINE_BYTES: usize = lines::LONGEST_CALL + 1;
 
 // The bytes of the longest answer, every id listed, with its newline.
-pub const ANSWER_BYTES: usize = 1 + lines::WIDTH * (lines::ANSWER_NUMBERS + records::CAPACITY) + 1;
+pub const ANSWER_BYTES: usize = 1
+    + fields::WIDTH * (answers::ANSWER_NUMBERS + records::CAPACITY)
+    + 1;
 
 // How many bytes of the line are held, and how many bytes of the answers are there to be written.
 pub struct Place {

@@ -1,4 +1,3 @@
-// The replay program without its reading and writing: document 01, "Lines". A line answered, and the bytes of a chunk taken one by one.
+// The replay program without its reading and writing: document 01, "Lines". The bytes of a chunk taken one by one, and each line answered.
 
-pub mod answering;
 pub mod feeding;

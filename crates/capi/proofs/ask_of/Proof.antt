@@ -1,38 +1,14 @@
--- `capi::ask_of` meets its contract: each number of the rectangle is made wider.
+-- `capi::ask_of` meets its contract: its rectangle is that of the four numbers.
 -- Assumes nothing.
-use mathlib.Core.Path.{_≡_}
 use borrow.Author.Needs.{needs}
-use lib.IntN.{ℤ}
-use mir.Syntax.{w32, w64}
-use Rattle.ints.proofs.Machine.{back, held, called₁}
 use Rattle.capi.proofs.ask_of.Statement.{statement}
 use Rattle.capi.proofs.ask_of.Tie as tie
 
-abbrev same : ℤ → ℤ
-same z = z
-
-wide-signed-requires : tie.Need-wide-signed-requires
-wide-signed-requires c κs = search needs
-
-wide-signed-requires-2 : tie.Need-wide-signed-requires-2
-wide-signed-requires-2 c κs = search needs
-
-wide-signed-requires-3 : tie.Need-wide-signed-requires-3
-wide-signed-requires-3 c κs = search needs
-
-wide-signed-requires-4 : tie.Need-wide-signed-requires-4
-wide-signed-requires-4 c κs = search needs
+of-requires : tie.Need-of-requires
+of-requires c κs = search needs
 
 returns : tie.Need-returns
-returns c =
-    let a = c .before .before .before in
-    let s = a .before .args in
-    let p : back w64 (a .wide-signed .result) ≡ s .low-x = search (called₁ w32 w64 same) in
-    let q : back w64 (c .before .before .wide-signed2 .result) ≡ s .high-x = search (called₁ w32 w64 same) in
-    let u : back w64 (c .before .wide-signed3 .result) ≡ s .low-y = search (called₁ w32 w64 same) in
-    let v : back w64 (c .wide-signed4 .result) ≡ s .high-y = search (called₁ w32 w64 same) in
-    simp (p, q, u, v, held w32 (s .method) (search needs), held w32 (s .asked) (search needs))
+returns c = rw (c .of .ensures) (search needs)
 
 pub ask-of-spec : {M : Type 1} → statement M
-ask-of-spec =
-    tie.close (tie.spec wide-signed-requires wide-signed-requires-2 wide-signed-requires-3 wide-signed-requires-4 returns)
+ask-of-spec = tie.close (tie.spec of-requires returns)

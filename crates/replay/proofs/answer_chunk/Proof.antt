@@ -5,8 +5,8 @@ use Prim.Native.Nat.{_+_, _-_}
 use native.Mathlib.Omega.{arith}
 use lib.ListN.{length, drop, length-drop}
 use lib.Seq.{length-take-le, take-all}
-use Rattle.session.specs.Session.{Feeds}
-use Rattle.replay.proofs.ChunkLaws.{can-feed, Through, through-begins, through-more, through-stops, through-ends}
+use Rattle.session.specs.Feeding.{Feeds}
+use Rattle.replay.proofs.ProgramLaws.{can-feed, Through, through-begins, through-more, through-stops, through-ends}
 use borrow.Author.Needs.{needs}
 use Rattle.replay.proofs.answer_chunk.Statement.{statement}
 use Rattle.replay.proofs.answer_chunk.Tie as tie

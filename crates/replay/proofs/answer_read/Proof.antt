@@ -6,7 +6,7 @@ use lib.ListN.{length}
 use Rattle.io.specs.Counts.{clamped}
 use mir.Syntax.{w64}
 use Rattle.ints.proofs.Machine.{held}
-use Rattle.replay.proofs.ChunkLaws.{nothing-read, some-read}
+use Rattle.replay.proofs.ProgramLaws.{nothing-read, some-read}
 use borrow.Author.Needs.{needs}
 use Rattle.replay.proofs.answer_read.Statement.{statement}
 use Rattle.replay.proofs.answer_read.Tie as tie

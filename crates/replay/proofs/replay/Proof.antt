@@ -4,7 +4,7 @@ use mathlib.Core.Path.{sym}
 use native.Mathlib.Omega.{arith}
 use lib.Seq.{length-take-le}
 use Rattle.session.specs.Session.{begun, Stands}
-use Rattle.replay.proofs.ChunkLaws.{begun-stands, begun-ready, replays-stopped, replays-ended}
+use Rattle.replay.proofs.ProgramLaws.{begun-stands, begun-ready, replays-stopped, replays-ended}
 use borrow.Author.Needs.{needs}
 use Rattle.replay.proofs.replay.Statement.{statement}
 use Rattle.replay.proofs.replay.Tie as tie
@@ -32,7 +32,7 @@ run-requires : tie.Need-run-requires
 run-requires c κs =
     let b = opened c in
     let a = first b in
-    begun-ready (b .begin .ensures) (a .pre .2) (a .pre .3)
+    begun-ready (b .begin .ensures) (a .pre .list-long) (a .pre .line-long)
 
 same-length : tie.Need-same-length
 same-length c = search needs
@@ -57,7 +57,7 @@ start k = first (opening k)
 
 -- the buffers that the run starts with are those of the session before the first byte
 begins : (k : tie.After-run) → Stands begun (opening k .begin .last .0) (opening k .begin .last .1 .0) (start k .args .line .now) 0
-begins k = begun-stands (opening k .begin .ensures) (start k .pre .3)
+begins k = begun-stands (opening k .begin .ensures) (start k .pre .line-long)
 
 returns : tie.Need-returns
 returns c =
@@ -73,7 +73,7 @@ finish-requires c κs =
       list-long = r .list-long;
       line-long = r .line-long;
       few = omega (arith, r .few);
-      room = omega (arith, start k .pre .4);
+      room = omega (arith, start k .pre .room);
     }
 
 slice-reshare-prefix-write-out : tie.Need-slice-reshare-prefix-write-out

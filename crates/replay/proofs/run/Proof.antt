@@ -5,7 +5,7 @@ use mathlib.Core.Bool.{false}
 use Prim.Native.Nat.{ℕ, _≤_, _+_, _-_}
 use native.Mathlib.Omega.{arith}
 use lib.ListN.{length}
-use Rattle.replay.proofs.ChunkLaws.{Ran, ran-none, ran-more, ran-stops, turn-within, turn-further}
+use Rattle.replay.proofs.ProgramLaws.{Ran, ran-none, ran-more, ran-stops, turn-within, turn-further}
 use borrow.Author.Needs.{needs}
 use Rattle.replay.proofs.run.Statement.{statement}
 use Rattle.replay.proofs.run.Tie as tie

@@ -24,14 +24,8 @@ element-copy-out-t19 c = search needs
 element-copy-out-t22 : tie.Need-element-copy-out-t22
 element-copy-out-t22 c = search needs
 
-element-copy-out-t27 : tie.Need-element-copy-out-t27
-element-copy-out-t27 c = search needs
-
-rect-of-requires : tie.Need-rect-of-requires
-rect-of-requires c κs = search needs
-
-element-copy-out-t31 : tie.Need-element-copy-out-t31
-element-copy-out-t31 c = search needs
+ask-of-requires : tie.Need-ask-of-requires
+ask-of-requires c κs = search needs
 
 returns : tie.Need-returns
 unfolding callOf
@@ -55,7 +49,7 @@ returns-5 c = rw (c .before .before .match .keys5) (search needs)
 
 returns-6 : tie.Need-returns-6
 unfolding callOf
-returns-6 c = rw (c .before .before .before .match .keys6, c .before .rect-of .ensures) (search needs)
+returns-6 c = rw (c .before .match .keys6, c .ask-of .ensures)
 
 returns-7 : tie.Need-returns-7
 unfolding callOf
@@ -67,4 +61,4 @@ pub call-of-spec : {M : Type 1} → statement M
 call-of-spec =
     tie.close
     (tie.spec element-copy-out-t6 element-copy-out-t9 report-of-requires report-of-requires-2 element-copy-out-t19 element-copy-out-t22
-    element-copy-out-t27 rect-of-requires element-copy-out-t31 returns returns-2 returns-3 returns-4 returns-5 returns-6 returns-7)
+    ask-of-requires returns returns-2 returns-3 returns-4 returns-5 returns-6 returns-7)

@@ -4,8 +4,8 @@ use mathlib.Core.Path.{_≡_}
 use native.Mathlib.Omega.{arith}
 use mir.Syntax.{w64}
 use Rattle.ints.proofs.Machine.{back, fits, held}
-use Rattle.lines.proofs.ColumnLaws.{in-range}
-use Rattle.lines.proofs.LineLaws.{writable-back}
+use Rattle.fields.proofs.WritingLaws.{in-range}
+use Rattle.fields.proofs.NumberLaws.{writable-back}
 use Rattle.lines.proofs.writing.narrow.Statement.{statement}
 use Rattle.lines.proofs.writing.narrow.Tie as tie
 

@@ -6,7 +6,7 @@ use Prim.Native.Nat.{ℕ, _-_}
 use lib.ListN.{length}
 use lib.Seq.{length-take-le}
 use borrow.Rule.Slice.PartMut.{same-len-mid}
-use Rattle.session.proofs.FeedLaws.{answer-fits, line-ended}
+use Rattle.session.proofs.FeedingLaws.{answer-fits, line-ended}
 use denote.Ref.{now}
 use borrow.Author.Needs.{needs}
 use Rattle.session.proofs.feeding.end_line.Statement.{statement}

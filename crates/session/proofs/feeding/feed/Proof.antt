@@ -4,7 +4,7 @@ use mathlib.Core.Path.{_≡_, refl, _∙_}
 use Prim.Native.Nat.{_≤_, _-_}
 use native.Mathlib.Omega.{arith}
 use lib.ListN.{length}
-use Rattle.session.proofs.FeedLaws.{Going, going-begins, can-take, going-on, going-ends, some-taken}
+use Rattle.session.proofs.FeedingLaws.{Going, going-begins, can-take, going-on, going-ends, some-taken}
 use denote.Ref.{now}
 use borrow.Author.Needs.{needs}
 use Rattle.session.proofs.feeding.feed.Statement.{statement}

@@ -1,7 +1,7 @@
 -- `session::feeding::finish` meets its contract.
 -- Assumes nothing.
 use native.Mathlib.Omega.{arith}
-use Rattle.session.proofs.FeedLaws.{ends-empty, ends-line}
+use Rattle.session.proofs.FeedingLaws.{ends-empty, ends-line}
 use denote.Ref.{now}
 use borrow.Author.Needs.{needs}
 use Rattle.session.proofs.feeding.finish.Statement.{statement}

@@ -1,6 +1,6 @@
 -- `session::feeding::hold` meets its contract.
 -- Assumes nothing.
-use Rattle.session.proofs.FeedLaws.{held-full, held-more}
+use Rattle.session.proofs.FeedingLaws.{held-full, held-more}
 use native.Mathlib.Omega.{arith}
 use borrow.Author.Needs.{needs}
 use Rattle.session.proofs.feeding.hold.Statement.{statement}

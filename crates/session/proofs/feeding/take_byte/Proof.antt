@@ -1,7 +1,7 @@
 -- `session::feeding::take_byte` meets its contract.
 -- Assumes nothing.
 use native.Mathlib.Omega.{arith}
-use Rattle.session.proofs.FeedLaws.{newline-taken, other-taken}
+use Rattle.session.proofs.FeedingLaws.{newline-taken, other-taken}
 use denote.Ref.{now}
 use borrow.Author.Needs.{needs}
 use Rattle.session.proofs.feeding.take_byte.Statement.{statement}

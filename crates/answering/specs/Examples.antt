@@ -1,0 +1,58 @@
+-- The listing of document 01 as the program's input and output, and an input whose lines are damaged, one of them too long, and whose last line
+-- lacks its newline.
+-- Assumes nothing.
+use mathlib.Core.List.{List, [], _∷_, _++_}
+use Prim.Native.Nat.{ℕ}
+use Prim.Native.String.{String}
+use Rattle.lines.specs.Examples.{bytes}
+use Rattle.answering.specs.Replay.{newline}
+
+-- lines, each with its newline
+unfoldable pub ended : List String → List ℕ
+ended [] = []
+ended (line ∷ lines) = bytes line ++ newline ∷ ended lines
+
+-- what goes in
+unfoldable pub listing : List String
+listing =
+    "O         0"
+    ∷ "A         7         0    100000    100000       100         0"
+    ∷ "A         9         0    600000    100000       -50         0"
+    ∷ "Q         3      3600    400000         0    500000    200000"
+    ∷ "D         7        10"
+    ∷ "Q         0      3600    400000         0    500000    200000"
+    ∷ "D         7        20"
+    ∷ []
+
+-- what comes out
+unfoldable pub listingSays : List String
+listingSays =
+    "O         0         0"
+    ∷ "A         0         1"
+    ∷ "A         0         2"
+    ∷ "Q         0         2         2         2         0         7         9"
+    ∷ "D         0         1"
+    ∷ "Q         0         1         3         1         0         9"
+    ∷ "D         6         0"
+    ∷ []
+
+-- damaged lines, then a call that lacks its newline
+unfoldable pub damaged : List String
+damaged =
+    ""
+    ∷ "C        +5"
+    ∷ "C         5 "
+    ∷ "A         7         0    100000    100000       100         0         0"
+    ∷ []
+
+abbrev pub lastLine : String
+lastLine = "C         7"
+
+unfoldable pub damagedSays : List String
+damagedSays =
+    "?         9         0"
+    ∷ "?         9         0"
+    ∷ "?         9         0"
+    ∷ "?         9         0"
+    ∷ "C         0         0"
+    ∷ []

@@ -1,0 +1,3 @@
+pub mod Replay
+pub mod Answering
+pub mod Examples

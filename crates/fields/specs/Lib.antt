@@ -1,0 +1,5 @@
+pub mod Fields
+pub mod Numbers
+pub mod Put
+pub mod Reading
+pub mod Writing

@@ -1,0 +1,76 @@
+-- `streams::read_chunk` meets its contract.
+-- Assumes nothing.
+use mathlib.Core.Path.{_≡_}
+use lib.ListN.{length}
+use mir.Syntax.{w64}
+use Rattle.ints.proofs.Machine.{held}
+use borrow.Author.Needs.{needs}
+use Rattle.streams.proofs.read_chunk.Statement.{statement}
+use Rattle.streams.proofs.read_chunk.Tie as tie
+
+abbrev Inv-loop : tie.InvT-loop
+Inv-loop chunk₀ turns₀ chunk turns = length chunk ≡ length chunk₀
+
+abbrev μ-loop : tie.MeasureT-loop
+μ-loop chunk₀ turns₀ chunk turns = turns
+
+loop-holds : tie.Need-loop-holds Inv-loop μ-loop
+loop-holds c = search needs
+
+read-requires : tie.Need-read-requires Inv-loop μ-loop
+read-requires c κs = search needs
+
+same-length : tie.Need-same-length Inv-loop μ-loop
+same-length c = search needs
+
+returns : tie.Need-returns Inv-loop μ-loop
+returns c =
+    let k = c .before .before .before .read in
+    rw (held w64 (k .result) (search needs), k .kept .1 .0) (k .ensures)
+
+tries-again-requires : tie.Need-tries-again-requires Inv-loop μ-loop
+tries-again-requires c κs = search needs
+
+tell-read-failed-requires : tie.Need-tell-read-failed-requires Inv-loop μ-loop
+tell-read-failed-requires c κs = search needs
+
+same-length-2 : tie.Need-same-length-2 Inv-loop μ-loop
+same-length-2 c = search needs
+
+returns-2 : tie.Need-returns-2 Inv-loop μ-loop
+returns-2 c = search needs
+
+sub-turns : tie.Need-sub-turns Inv-loop μ-loop
+sub-turns c = search needs
+
+loop-less : tie.Need-loop-less Inv-loop μ-loop
+loop-less c = search needs
+
+loop-again : tie.Need-loop-again Inv-loop μ-loop
+loop-again c = search needs
+
+same-length-3 : tie.Need-same-length-3 Inv-loop μ-loop
+same-length-3 c = search needs
+
+returns-3 : tie.Need-returns-3 Inv-loop μ-loop
+returns-3 c = search needs
+
+pub read-chunk-spec : {M : Type 1} → statement M
+read-chunk-spec =
+    tie.close
+    (tie.spec
+    Inv-loop
+    μ-loop
+    loop-holds
+    read-requires
+    same-length
+    returns
+    tries-again-requires
+    tell-read-failed-requires
+    same-length-2
+    returns-2
+    sub-turns
+    loop-less
+    loop-again
+    same-length-3
+    returns-3)
