@@ -15,7 +15,7 @@ use Rattle.ints.proofs.Parts.{true-false}
 use Rattle.records.specs.Words.{Words, timeIn, areSound}
 use Rattle.records.specs.declared.Record.{Record}
 use Rattle.words.specs.Words.{opened}
-use Rattle.words.proofs.PlaceLaws.{opened-records}
+use Rattle.words.proofs.PlacedLaws.{opened-records}
 use Rattle.ledger.specs.Answers.{refusalNumber, refusalValue, isAccepted}
 use Rattle.ledger.specs.Refusals.{check, firstToFail, badAskTime, badAsk}
 use Rattle.ledger.specs.Machine as Ledger
@@ -31,11 +31,11 @@ use Rattle.ledger.specs.declared.Refusal.{Refusal}
 use Rattle.ledger.specs.declared.Refusal.the-variants.{WrongLength, Unsound, BadTime, BadNumber, AlreadyHeld, NotHeld, Full, ListTooShort}
 use Rattle.ledger.specs.declared.Verdict.{Verdict}
 use Rattle.ledger.specs.declared.Verdict.the-variants.{Passed, Failed}
-use Rattle.ledger.proofs.VerdictLaws.{passes, first-passed, others-passed}
+use Rattle.ledger.proofs.RefusalsLaws.{passes, first-passed, others-passed}
 use Rattle.asking.specs.Asking.{idsNeeded, askSettled}
 use Rattle.engine.specs.Index.{wrongLength, unsound, openChecks, checksOf, settled, openOut, clockOut, changeOut, askOut, callOut}
 use Rattle.engine.specs.Gives.{Gives, GivesCall}
-use Rattle.engine.proofs.CheckLaws.{right-length}
+use Rattle.engine.proofs.ChecksLaws.{right-length}
 use Rattle.engine.proofs.SmallAnswers.{SmallAnswer, call-small}
 use Rattle.history.specs.Index as H
 use Rattle.history.specs.Index.{LentCall, fed, idsWritten}

@@ -9,7 +9,7 @@ use borrow.Author.Tests.{lt-ltb, le-ltb}
 use lib.IntN.{natAbs}
 use lib.ListN.{length, drop, length-replicate}
 use Rattle.ints.specs.Whole.{up}
-use Rattle.ints.proofs.Members.{passing}
+use Rattle.ints.proofs.Lists.{passing}
 use Rattle.ints.proofs.Parts.{abs, one-part}
 use Rattle.grid.specs.Units.{cells}
 use Rattle.grid.specs.Reports.{isListed}
@@ -17,7 +17,7 @@ use Rattle.grid.specs.declared.Report.{Report}
 use Rattle.rows.specs.Row.{emptyRow, isEmpty, sameRow}
 use Rattle.rows.specs.Phases.{phaseOf, isLive, slotOf, livePhases}
 use Rattle.rows.specs.declared.Row.{Row}
-use Rattle.rows.proofs.PhaseLaws.{slot-on, live-range}
+use Rattle.rows.proofs.PhasesLaws.{slot-on, live-range}
 use Rattle.methods.specs.Aims.{Aim, aimIn}
 use Rattle.methods.specs.Methods.{Rows, Found, missing, found, boundsIn, naiveBlock, iterated, iterativeSearch, choice}
 use Rattle.methods.specs.Slots.{rowsOfSlot}
@@ -28,8 +28,8 @@ use Rattle.methods.proofs.Rounds.{none-is, same-is, onward-is}
 use Rattle.records.specs.Words.{Words, timeIn, recordsIn}
 use Rattle.records.specs.Soundness.{IsStore}
 use Rattle.records.specs.declared.Record.{Record}
-use Rattle.records.proofs.SoundLaws as Sound
-use Rattle.records.proofs.SoundLawsRanges.{between-from, last-phase}
+use Rattle.records.proofs.SoundnessLaws as Sound
+use Rattle.records.proofs.RangeLaws.{between-from, last-phase}
 use Rattle.reading.specs.Reading.{ReadingOf, SmallReading, hasKey, listedIn, isRead, cellsIn, usefulIn, withIds, rising}
 use Rattle.reading.specs.declared.Reading.{Reading}
 use Rattle.reading.proofs.ListedLaws.{listed-is}
@@ -48,7 +48,7 @@ use Rattle.asking.specs.Asking.{AskOutcome, GivesList}
 use Rattle.asking.specs.Counted.{CanAsk, noIds, roomChecks, settledByRoom, CanChooseIn, CanReadIn, ReadIn}
 use Rattle.asking.specs.Counted.{SmallCounts, CountedTogether, CountedIn, CountedOver}
 use Rattle.asking.specs.declared.Counts.{Counts}
-use Rattle.asking.proofs.AskLaws.{FitAsk, fit-ask, good-method, asked-in}
+use Rattle.asking.proofs.PhaseReadingLaws.{FitAsk, fit-ask, good-method, asked-in}
 use Rattle.asking.proofs.ListIsExact.{list-is-exact}
 
 module _ (w : Words) (ask : Ask) (can : CanAsk w ask) where

@@ -1,4 +1,4 @@
-pub mod AskLaws
-pub mod CountLaws
+pub mod PhaseReadingLaws
+pub mod CountedLaws
 pub mod ListIsExact
 pub mod AskingLaws

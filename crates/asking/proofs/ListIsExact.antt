@@ -15,13 +15,13 @@ use Rattle.ints.specs.Whole.{eqZ}
 use Rattle.ints.proofs.Parts.{true-false, equal-parts}
 use Rattle.ints.proofs.Truth.{and-true, and-left, and-right}
 use Rattle.ints.proofs.Same.{is-same}
-use Rattle.ints.proofs.Members.{passing, passing-in, passing-has, passes-some, map-has, map-in}
+use Rattle.ints.proofs.Lists.{passing, passing-in, passing-has, passes-some, map-has, map-in}
 use Rattle.ints.proofs.Marks.{marked, marked-more, in-marked, marked-in}
 use Rattle.ints.proofs.Rising.{same-rising}
 use Rattle.grid.specs.Units.{lastId}
 use Rattle.grid.specs.Reports.{isListed}
 use Rattle.rows.specs.Phases.{phaseOf, livePhases, slotOf}
-use Rattle.rows.proofs.PhaseLaws.{live-listed}
+use Rattle.rows.proofs.PhasesLaws.{live-listed}
 use Rattle.records.specs.Words.{Words, timeIn, recordsIn}
 use Rattle.ledger.specs.declared.Ask.{Ask}
 use Rattle.grid.specs.declared.Query.{Query}
@@ -29,14 +29,14 @@ use Rattle.records.specs.Order.{slotOfKey, numberOfKey, hasId}
 use Rattle.records.specs.Soundness.{idsDistinct}
 use Rattle.reading.specs.Reading.{inSet, isRead, withIds, risingFrom}
 use Rattle.records.specs.declared.Record.{Record}
-use Rattle.records.proofs.SoundLawsRanges.{ranges}
-use Rattle.records.proofs.SoundLaws.{SoundRecord, Sound, sound-parts}
+use Rattle.records.proofs.RangeLaws.{ranges}
+use Rattle.records.proofs.SoundnessLaws.{SoundRecord, Sound, sound-parts}
 use Rattle.reading.proofs.ListedLaws.{id-among, idOf, ids-marked, listed-is, rising-in, rising-has, rising-rises}
 use Rattle.ledger.specs.Machine.{putInOrder}
-use Rattle.ledger.proofs.OrderLaws.{inOrder, in-order-in, in-order-has, in-order-length, Apart, empty, more, in-order-rising}
+use Rattle.ledger.proofs.IdsInOrderLaws.{inOrder, in-order-in, in-order-has, in-order-length, Apart, empty, more, in-order-rising}
 use Rattle.asking.specs.Asking.{marksIn, listedOf, foundIn, phasesNow, idsNeeded, idsFound}
 use Rattle.asking.specs.Claims.{idsInside, ListIsExact}
-use Rattle.asking.proofs.AskLaws.{FitAsk, fit-ask, phaseOfRecord, isInside, isInsideIn, float-at, listed-of-phase, needed-is}
+use Rattle.asking.proofs.PhaseReadingLaws.{FitAsk, fit-ask, phaseOfRecord, isInside, isInsideIn, float-at, listed-of-phase, needed-is}
 
 -- ---- the ids inside
 

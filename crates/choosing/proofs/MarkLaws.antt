@@ -10,7 +10,7 @@ use native.Mathlib.Omega.{arith}
 use lib.ListN.{length, getD, set, replicate, length-replicate, getD-replicate}
 use lib.Seq.{getD-set-same, getD-set-other, ext-getD}
 use Rattle.ints.specs.Lists.{passing}
-use Rattle.ints.proofs.Members.{passing-append}
+use Rattle.ints.proofs.Lists.{passing-append}
 use Rattle.grid.specs.Units.{cells}
 use Rattle.grid.specs.Curve.{cell}
 use Rattle.grid.specs.declared.Cell.{Cell}

@@ -1,3 +1,3 @@
-pub mod CheckLaws
+pub mod ChecksLaws
 pub mod GivesLaws
 pub mod SmallAnswers

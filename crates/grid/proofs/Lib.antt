@@ -3,4 +3,4 @@ mod Tables
 pub mod Curve
 pub mod Places
 pub mod Examples
-pub mod MotionLaws
+pub mod Reports

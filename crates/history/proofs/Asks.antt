@@ -13,7 +13,7 @@ use lib.Seq.{take-append-seam}
 use Rattle.ints.specs.Lists.{passing}
 use Rattle.ints.specs.Whole.{up}
 use Rattle.ints.proofs.Truth.{same-truth}
-use Rattle.ints.proofs.Members.{map-has, map-in}
+use Rattle.ints.proofs.Lists.{map-has, map-in}
 use Rattle.grid.specs.Units.{cells}
 use Rattle.grid.specs.Curve.{curveNumber}
 use Rattle.grid.specs.Reports.{isListed}
@@ -21,7 +21,7 @@ use Rattle.grid.specs.declared.Cell.{Cell}
 use Rattle.grid.specs.declared.Query.{Query}
 use Rattle.grid.proofs.Curve.{number-below, cell-of-its-number}
 use Rattle.rows.specs.Phases.{phaseOf, isLive, livePhases, slotOf}
-use Rattle.rows.proofs.PhaseLaws.{listed-live}
+use Rattle.rows.proofs.PhasesLaws.{listed-live}
 use Rattle.methods.specs.Methods.{Choice}
 use Rattle.methods.specs.Aims.{aimIn}
 use Rattle.methods.specs.Slots.{rowsOfSlot}
@@ -30,8 +30,8 @@ use Rattle.records.specs.Words.{Words, timeIn}
 use Rattle.records.specs.Order.{precedes}
 use Rattle.store.specs.Changes.{inserted}
 use Rattle.records.specs.declared.Record.{Record}
-use Rattle.records.proofs.SoundLawsKeys.{live-phase-of-key}
-use Rattle.records.proofs.SoundLaws.{Sound, sound-parts}
+use Rattle.records.proofs.KeyLaws.{live-phase-of-key}
+use Rattle.records.proofs.SoundnessLaws.{Sound, sound-parts}
 use Rattle.reading.proofs.ListedLaws.{idOf}
 use Rattle.ledger.specs.Answers.{isAccepted}
 use Rattle.ledger.specs.Refusals.{check, unless, firstToFail, badAskTime, badAsk, askChecks}
@@ -45,16 +45,16 @@ use Rattle.ledger.specs.declared.Ask.{Ask}
 use Rattle.ledger.specs.declared.Call.the-variants as Call
 use Rattle.ledger.specs.declared.Verdict.{Verdict}
 use Rattle.ledger.specs.declared.Verdict.the-variants.{Passed, Failed}
-use Rattle.ledger.proofs.OrderLaws.{put-comm}
-use Rattle.ledger.proofs.SumLaws.{summed-same}
-use Rattle.ledger.proofs.VerdictLaws.{first-passed, others-passed}
+use Rattle.ledger.proofs.IdsInOrderLaws.{put-comm}
+use Rattle.ledger.proofs.SummedLaws.{summed-same}
+use Rattle.ledger.proofs.RefusalsLaws.{first-passed, others-passed}
 use Rattle.asking.specs.Asking.{choiceOf, idsNeeded, idsFound, cellsCounted, usefulCounted, roundsCounted, askSettled}
 use Rattle.asking.specs.Claims.{idsInside}
-use Rattle.asking.proofs.AskLaws.{FitAsk, fit-ask, isInside}
-use Rattle.asking.proofs.CountLaws.{cells-counted-are}
+use Rattle.asking.proofs.PhaseReadingLaws.{FitAsk, fit-ask, isInside}
+use Rattle.asking.proofs.CountedLaws.{cells-counted-are}
 use Rattle.asking.proofs.ListIsExact.{found-is-inside, needed-is-inside}
 use Rattle.engine.specs.Index.{checksOf, askOut, leavingWords, callOut}
-use Rattle.engine.proofs.CheckLaws.{sound-lent}
+use Rattle.engine.proofs.ChecksLaws.{sound-lent}
 use Rattle.history.specs.Index.{fed, replyOf, replyTo}
 use Rattle.history.specs.Claims.{asking}
 use Rattle.history.specs.EveryCall.{heldRecord, heldIn}

@@ -10,7 +10,7 @@ use Rattle.ints.proofs.Marks.{counted}
 use Rattle.grid.specs.Units.{cells}
 use Rattle.grid.specs.Curve.{cellOfNumber}
 use Rattle.rows.specs.Phases.{phaseOf, livePhases}
-use Rattle.rows.proofs.PhaseLaws.{listed-live}
+use Rattle.rows.proofs.PhasesLaws.{listed-live}
 use Rattle.methods.specs.Aims.{sliceOf, aimIn}
 use Rattle.methods.proofs.Claims.{methods-are-nested}
 use Rattle.methods.proofs.Timeslice.{timeslice-is-fair}
@@ -23,9 +23,9 @@ use Rattle.ledger.specs.declared.Answer.{Answer}
 use Rattle.ledger.specs.declared.Answer.the-variants.{Listed}
 use Rattle.ledger.specs.declared.Ask.{Ask}
 use Rattle.ledger.specs.declared.Verdict.the-variants.{Passed}
-use Rattle.ledger.proofs.SumLaws.{summed-same}
-use Rattle.ledger.proofs.VerdictLaws.{passed-of}
-use Rattle.asking.proofs.AskLaws.{FitAsk}
+use Rattle.ledger.proofs.SummedLaws.{summed-same}
+use Rattle.ledger.proofs.RefusalsLaws.{passed-of}
+use Rattle.asking.proofs.PhaseReadingLaws.{FitAsk}
 use Rattle.history.specs.Index.{replyTo}
 use Rattle.history.specs.Claims.{asking, askBy, EveryHistoryIsTheLedgers, Accepts, PointAgrees, EveryPointAgrees}
 use Rattle.history.proofs.Relation.{Left}

@@ -20,7 +20,7 @@ use Rattle.ledger.specs.declared.Change.the-variants as Change
 use Rattle.ledger.specs.declared.Refusal.the-variants.{BadTime, BadNumber, NotHeld}
 use Rattle.ledger.specs.declared.Verdict.the-variants.{Passed}
 use Rattle.ledger.proofs.MachineLaws.{stepped-length, without-length}
-use Rattle.ledger.proofs.VerdictLaws.{first-passed, others-passed, passed-of}
+use Rattle.ledger.proofs.RefusalsLaws.{first-passed, others-passed, passed-of}
 use Rattle.history.specs.Claims.{countIf, acceptedOf, HeldAreAddsLessDrops}
 
 -- a change that passed its checks changes the count of floats held by its count

@@ -14,11 +14,11 @@ use Rattle.grid.specs.Reports.{isTime}
 use Rattle.rows.specs.Row.{emptyRow, boundsOf}
 use Rattle.rows.specs.Phases.{slotOf, slots}
 use Rattle.rows.specs.Table.{tableWords, rowAt, withSlotEmpty}
-use Rattle.rows.proofs.PhaseLaws.{slot-on}
+use Rattle.rows.proofs.PhasesLaws.{slot-on}
 use Rattle.rows.proofs.TableLaws.{length-slot-empty, row-emptied, row-kept}
 use Rattle.records.specs.Words.{Words, timeIn, recordsIn}
 use Rattle.words.specs.Words as Index
-use Rattle.words.proofs.PlaceLaws.{opened-time, opened-records, opened-can-change}
+use Rattle.words.proofs.PlacedLaws.{opened-time, opened-records, opened-can-change}
 use Rattle.ledger.specs.Answers.{isAccepted}
 use Rattle.ints.specs.Lists.{passing}
 use Rattle.ints.proofs.Parts.{true-false}
@@ -34,10 +34,10 @@ use Rattle.ledger.specs.declared.Change.{Change}
 use Rattle.ledger.specs.declared.Refusal.the-variants.{WrongLength, BadTime}
 use Rattle.ledger.specs.declared.Verdict.{Verdict}
 use Rattle.ledger.specs.declared.Verdict.the-variants.{Passed, Failed}
-use Rattle.ledger.proofs.VerdictLaws.{first-passed, others-passed}
+use Rattle.ledger.proofs.RefusalsLaws.{first-passed, others-passed}
 use Rattle.engine.specs.Index.{wrongLength, lentChecks, openChecks, checksOfChange, settled, openOut, clockOut, changeOut, leavingList, callOut}
 use Rattle.engine.specs.Index as Engine
-use Rattle.engine.proofs.CheckLaws.{right-lengths, sound-lent}
+use Rattle.engine.proofs.ChecksLaws.{right-lengths, sound-lent}
 use Rattle.history.specs.Index.{LentCall, fed, fedAll, replyOf, replyTo, next, replies, after, openedWords}
 use Rattle.history.specs.Claims.{EveryHistoryIsTheLedgers, asking}
 use Rattle.history.proofs.Relation.{recordsOfHeld, TableMatches, Left}

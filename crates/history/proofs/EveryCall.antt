@@ -16,7 +16,7 @@ use Rattle.methods.specs.Methods.{choice}
 use Rattle.methods.specs.Aims.{aimIn}
 use Rattle.methods.specs.Slots.{rowsOfSlot}
 use Rattle.records.specs.Words.{Words, timeIn, recordsIn, areSound}
-use Rattle.records.proofs.SoundLaws.{sound-parts}
+use Rattle.records.proofs.SoundnessLaws.{sound-parts}
 use Rattle.ledger.specs.Answers.{Counts, valueOf, countsOf, isAccepted}
 use Rattle.ledger.specs.Refusals.{check, unless, firstToFail, inNumberOrder, badAskTime, badAsk, changeChecks, askChecks}
 use Rattle.ledger.specs.declared.Answer.{Answer}
@@ -29,17 +29,17 @@ use Rattle.ledger.specs.declared.Change.the-variants as Change
 use Rattle.ledger.specs.declared.Refusal.the-variants.{Unsound, WrongLength, BadTime, BadNumber, ListTooShort}
 use Rattle.ledger.specs.declared.Verdict.{Verdict}
 use Rattle.ledger.specs.declared.Verdict.the-variants.{Passed, Failed}
-use Rattle.ledger.proofs.SumLaws.{summed-same, summed-none}
+use Rattle.ledger.proofs.SummedLaws.{summed-same, summed-none}
 use Rattle.ledger.proofs.Claims.{refusals-are-plain}
-use Rattle.ledger.proofs.VerdictLaws.{first-passed, others-passed}
+use Rattle.ledger.proofs.RefusalsLaws.{first-passed, others-passed}
 use Rattle.asking.specs.Asking.{choiceOf, idsNeeded, idsFound, roundsCounted, AskOutcome, askSettled}
 use Rattle.asking.specs.Counted.{roomChecks}
 use Rattle.asking.specs.Claims.{idsInside}
-use Rattle.asking.proofs.AskLaws.{fit-ask}
-use Rattle.asking.proofs.CountLaws.{cells-counted-are}
+use Rattle.asking.proofs.PhaseReadingLaws.{fit-ask}
+use Rattle.asking.proofs.CountedLaws.{cells-counted-are}
 use Rattle.asking.proofs.ListIsExact.{list-is-exact}
 use Rattle.engine.specs.Index.{wrongLength, unsound, lentChecks, checksOf, askOut, callOut}
-use Rattle.engine.proofs.CheckLaws.{sound-lent, room-left}
+use Rattle.engine.proofs.ChecksLaws.{sound-lent, room-left}
 use Rattle.history.specs.Index.{idsWritten}
 use Rattle.history.specs.EveryCall.{EveryCallChecksInOrder, CountsOfAsk, ListIsWritten, heldIn, CountsAreExact, ChoiceRoundsAreMethodTwos, RoundsAreMethodTwos, RefusedAskIsEmpty}
 use Rattle.history.proofs.SoundUseful.{useful-counted}

@@ -2,7 +2,7 @@
 -- records.
 -- Assumes nothing.
 use mathlib.Core.Path.{_≡_, refl, sym, ap, _∙_}
-use mathlib.Core.Bool.{Bool, true, false, cond, _&&_, not}
+use mathlib.Core.Bool.{Bool, true, false, cond, not}
 use mathlib.Core.List.{List, [], _∷_, List·Memᴰ, List·Memᴰ·head, List·Memᴰ·tail, List·Memᴰ·not-nil}
 use mathlib.Core.Logic.{⊎-elim}
 use Prim.Native.Nat.{suc}
@@ -18,8 +18,8 @@ use Rattle.records.specs.Order.{isSorted, hasId}
 use Rattle.records.specs.Soundness.{isSoundRecord, allSound, idsDistinct}
 use Rattle.store.specs.Changes.{inserted, insertedAll, removed, placedIn, stays, moves, steppedRecords}
 use Rattle.records.specs.declared.Record.{Record}
-use Rattle.records.proofs.SoundLawsKeys.{live-phase-of-key, placed-right}
-use Rattle.records.proofs.SoundLaws.{record-sound}
+use Rattle.records.proofs.KeyLaws.{live-phase-of-key, placed-right}
+use Rattle.records.proofs.SoundnessLaws.{record-sound}
 use Rattle.store.proofs.InsertedLaws.{inserted-from, inserted-length, has-inserted, inserted-sorted, inserted-every, inserted-distinct}
 use Rattle.store.proofs.RemovedLaws.{removed-same, removed-other}
 use Rattle.store.proofs.SteppedLaws.{stepped-kept, stepped-replaced}

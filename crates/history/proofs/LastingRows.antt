@@ -17,20 +17,20 @@ use Rattle.grid.specs.declared.Report.{Report}
 use Rattle.grid.proofs.Curve.{number-below}
 use Rattle.rows.specs.Row.{driftOf, widened, boundsOf}
 use Rattle.rows.specs.Phases.{slots, phaseOf, isLive, slotOf}
-use Rattle.rows.specs.Table.{tableWords, rowAt, withDrift, withNewlyLiveEmpty}
+use Rattle.rows.specs.Table.{tableWords, rowAt, withNewlyLiveEmpty}
 use Rattle.rows.specs.declared.Row.{Row}
-use Rattle.rows.proofs.PhaseLaws.{live-range, range-live, slot-on, phases-grow}
+use Rattle.rows.proofs.PhasesLaws.{live-range, range-live, slot-on, phases-grow}
 use Rattle.rows.proofs.RowLaws.{Within, within-refl, within-trans, within-joined-left, holds-within, bounds-grow}
 use Rattle.rows.proofs.TableLaws.{row-written, row-other, length-with-row, length-newly-live-empty, earlier-live-kept}
 use Rattle.records.specs.Words.{Words, timeIn, recordsIn}
 use Rattle.records.specs.Order.{slotOfKey, numberOfKey}
 use Rattle.store.specs.Changes.{inserted, removed, placedIn, moves, replaced, steppedRecords, widenedBy, widenedByAll}
-use Rattle.store.proofs.SpeedLaws.{ownRow}
+use Rattle.store.proofs.WidenedLaws.{ownRow}
 use Rattle.words.specs.Words as Index
 use Rattle.records.specs.declared.Record.{Record}
-use Rattle.records.proofs.RecordLaws.{now-of-store}
-use Rattle.records.proofs.SoundLawsRanges.{number-of-key-below}
-use Rattle.store.proofs.SpeedLaws.{with-speeds-length}
+use Rattle.records.proofs.RecordsLaws.{now-of-store}
+use Rattle.records.proofs.RangeLaws.{number-of-key-below}
+use Rattle.store.proofs.WidenedLaws.{with-speeds-length}
 use Rattle.ledger.specs.Answers.{isAccepted}
 use Rattle.ledger.specs.Refusals.{Check, check, firstToFail, badStepTime, timeOf}
 use Rattle.ledger.specs.Machine.{Ledger, Placement, livePlacements, newPlacements, stepped, withReport, withoutId, changed, speedsPlaced, rowsIn}
@@ -44,10 +44,10 @@ use Rattle.ledger.specs.declared.Verdict.{Verdict}
 use Rattle.ledger.specs.declared.Verdict.the-variants.{Passed, Failed}
 use Rattle.ledger.specs.declared.Refusal.the-variants.{WrongLength, Unsound, BadTime}
 use Rattle.ledger.proofs.MachineLaws.{speeds-append, speeds-live}
-use Rattle.ledger.proofs.VerdictLaws.{first-passed, others-passed, passed-of}
+use Rattle.ledger.proofs.RefusalsLaws.{first-passed, others-passed, passed-of}
 use Rattle.engine.specs.Index.{wrongLength, unsound, lentChecks, settled, clockOut, changeOut, callOut}
 use Rattle.engine.specs.Index as Engine
-use Rattle.engine.proofs.CheckLaws.{right-lengths}
+use Rattle.engine.proofs.ChecksLaws.{right-lengths}
 use Rattle.history.specs.Index.{LentCall, next, after}
 use Rattle.history.specs.Claims.{phaseNow, RowsNeverNarrow, LedgerRowsNeverNarrow}
 use Rattle.history.proofs.Steps.{step-later}

@@ -13,8 +13,8 @@ use lib.ListN.{length}
 use lib.Signed.{leZ}
 use borrow.Author.Tests.{eqb-true, eq-eqb, ne-eqb}
 use Rattle.ints.specs.Lists.{passing}
-use Rattle.ints.proofs.Members.{map-passing}
-use Rattle.ints.proofs.Truth.{same-truth, and-true, and-left, and-right}
+use Rattle.ints.proofs.Lists.{map-passing}
+use Rattle.ints.proofs.Truth.{same-truth}
 use Rattle.grid.specs.Units.{cells}
 use Rattle.grid.specs.Places.{sameCell, OnGrid}
 use Rattle.grid.specs.Curve.{curveNumber, cellOfNumber}
@@ -28,17 +28,17 @@ use Rattle.rows.specs.Phases.{phaseOf, referenceTime, isLive, slotOf, slots}
 use Rattle.rows.specs.Table.{tableWords, rowAt, withNewlyLiveEmpty}
 use Rattle.rows.specs.declared.Row.{Row}
 use Rattle.rows.proofs.RowLaws.{AllValid, joined-same, drift-ranged, ranged-valid, empty-valid, bounds-valid, bounds-append}
-use Rattle.rows.proofs.PhaseLaws.{live-range, range-live, same-slot, slot-on, phases-grow}
+use Rattle.rows.proofs.PhasesLaws.{live-range, range-live, same-slot, slot-on, phases-grow}
 use Rattle.rows.proofs.TableLaws.{length-newly-live-empty, newly-live-emptied, earlier-live-kept}
 use Rattle.rows.proofs.SlotLaws.{phase-in-slot, slot-cases, other-slot-kept}
 use Rattle.records.specs.Order.{keyIn, slotOfKey, numberOfKey}
 use Rattle.store.specs.Changes.{placedIn, stays, moves, replaced, widenedByAll}
 use Rattle.records.specs.declared.Record.{Record}
-use Rattle.records.proofs.SoundLawsKeys.{slot-of-key-in, number-of-key-in}
-use Rattle.records.proofs.SoundLawsRanges.{drift-in-range}
+use Rattle.records.proofs.KeyLaws.{slot-of-key-in, number-of-key-in}
+use Rattle.records.proofs.RangeLaws.{drift-in-range}
 use Rattle.store.proofs.SteppedLaws.{replaced-from}
-use Rattle.store.proofs.SpeedLaws.{liesAt, speedsAt, Placeable, newBounds, withOne, bounds-inserted, with-speeds-length, row-with-speeds, none-elsewhere}
-use Rattle.store.proofs.SpeedLaws as Records
+use Rattle.store.proofs.WidenedLaws.{liesAt, speedsAt, Placeable, newBounds, withOne, bounds-inserted, with-speeds-length, row-with-speeds, none-elsewhere}
+use Rattle.store.proofs.WidenedLaws as Records
 use Rattle.ledger.specs.Machine as Ledger
 use Rattle.ledger.specs.Machine.{Ledger, Held, Placement, placeIn, placement, newPlacements, livePlacements, stepped, withReport, speedsPlaced, rowsIn}
 use Rattle.ledger.proofs.MachineLaws.{isThere, ownRow, speeds-append, speeds-live, no-speeds, speed-from}

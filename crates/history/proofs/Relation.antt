@@ -12,7 +12,7 @@ use Rattle.ints.specs.Whole.{between}
 use Rattle.grid.specs.Units.{cells, capacity}
 use Rattle.grid.specs.Places.{OnGrid}
 use Rattle.grid.specs.Curve.{cellOfNumber}
-use Rattle.grid.specs.Reports.{isTime, isSpeed, inRange}
+use Rattle.grid.specs.Reports.{isTime, inRange}
 use Rattle.rows.specs.Row.{emptyRow}
 use Rattle.rows.specs.Phases.{phaseOf, isLive, slotOf, slots}
 use Rattle.rows.specs.Table.{tableWords, rowAt}

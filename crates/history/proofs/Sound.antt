@@ -1,7 +1,7 @@
 -- Words that match a good ledger are sound: each float's speeds are in its row.
 -- Assumes nothing.
 use mathlib.Core.Path.{_≡_, refl, ap, ap₂, _∙_}
-use mathlib.Core.Bool.{Bool, true, _&&_}
+use mathlib.Core.Bool.{true}
 use mathlib.Core.List.{List, [], _∷_, List·Memᴰ, List·Memᴰ·head, List·Memᴰ·tail}
 use lib.ListN.{length}
 use Rattle.ints.specs.Lists.{every}
@@ -20,10 +20,9 @@ use Rattle.rows.proofs.TableLaws.{valid-of-rows}
 use Rattle.records.specs.Order.{keyIn, slotOfKey, numberOfKey}
 use Rattle.records.specs.Soundness.{inOwnRow, allSound, idsDistinct, speedsInRows}
 use Rattle.records.specs.Words.{Words, recordsIn, areSound}
-use Rattle.records.specs.declared.Record.{Record}
-use Rattle.records.proofs.SoundLawsKeys.{slot-of-key-in, number-of-key-in}
+use Rattle.records.proofs.KeyLaws.{slot-of-key-in, number-of-key-in}
 use Rattle.store.proofs.InsertedLaws.{inserted-every}
-use Rattle.words.proofs.PlaceLaws.{sound-words}
+use Rattle.words.proofs.PlacedLaws.{sound-words}
 use Rattle.ledger.specs.Machine.{Ledger, Held, placeIn, speedsPlaced, rowsIn}
 use Rattle.ledger.proofs.MachineLaws.{speed-placed}
 use Rattle.history.proofs.Relation.{recordOf, recordsOfHeld, GoodHeld, Good, Matches}

@@ -11,7 +11,7 @@ use borrow.Author.Tests.{eqb-true, eq-eqb}
 use Rattle.ints.specs.Whole.{up, eqZ}
 use Rattle.ints.proofs.Truth.{same-truth, and-true, and-left, and-right}
 use Rattle.ints.proofs.Same.{same-is, is-same}
-use Rattle.ints.proofs.Members.{passing, passing-in, passing-has, some-passes, passes-some, map-has, map-in}
+use Rattle.ints.proofs.Lists.{passing, passing-in, passing-has, some-passes, passes-some, map-has, map-in}
 use Rattle.ints.proofs.Marks.{counted}
 use Rattle.grid.specs.Units.{cells}
 use Rattle.grid.specs.Places.{OnGrid}
@@ -23,7 +23,7 @@ use Rattle.grid.specs.declared.Report.{Report}
 use Rattle.grid.proofs.Places.{cell-on}
 use Rattle.grid.proofs.Curve.{cell-of-its-number}
 use Rattle.rows.specs.Phases.{referenceTime, phaseOf, isLive, livePhases, slotOf}
-use Rattle.rows.proofs.PhaseLaws.{listed-live}
+use Rattle.rows.proofs.PhasesLaws.{listed-live}
 use Rattle.methods.specs.Aims.{aimIn}
 use Rattle.methods.specs.Slots.{rowsOfSlot}
 use Rattle.methods.proofs.Methods.{choice-on, choice-once}
@@ -32,15 +32,15 @@ use Rattle.records.specs.Words.{Words, timeIn, recordsIn}
 use Rattle.records.specs.Order.{keyIn, slotOfKey, numberOfKey}
 use Rattle.reading.specs.Reading.{inSet, isRead, hasKey}
 use Rattle.records.specs.declared.Record.{Record}
-use Rattle.records.proofs.SoundLawsKeys.{number-of-key-in}
-use Rattle.records.proofs.SoundLaws.{Sound}
+use Rattle.records.proofs.KeyLaws.{number-of-key-in}
+use Rattle.records.proofs.SoundnessLaws.{Sound}
 use Rattle.reading.proofs.ListedLaws.{listed-is, key-among}
 use Rattle.ledger.specs.Machine.{Held, placeIn, listedHeld, isUseful, usefulCells, summed}
-use Rattle.ledger.proofs.SumLaws.{summed-same}
+use Rattle.ledger.proofs.SummedLaws.{summed-same}
 use Rattle.ledger.specs.declared.Ask.{Ask}
 use Rattle.asking.specs.Asking.{choiceOf, marksIn, listedOf, usefulCounted}
-use Rattle.asking.proofs.AskLaws.{FitAsk, phaseOfRecord, isInside, isInsideIn, float-at, listed-of-phase}
-use Rattle.asking.proofs.CountLaws.{useful-counted-are}
+use Rattle.asking.proofs.PhaseReadingLaws.{FitAsk, phaseOfRecord, isInside, isInsideIn, float-at, listed-of-phase}
+use Rattle.asking.proofs.CountedLaws.{useful-counted-are}
 use Rattle.history.specs.EveryCall.{heldRecord, heldIn}
 use Rattle.history.proofs.UsefulCells.{useful-cells-are, useful-from, from-useful}
 

@@ -2,14 +2,14 @@
 -- listed floats, whatever the method.
 -- Assumes nothing.
 use mathlib.Core.Path.{_≡_, refl, sym, ap, _∙_, subst}
-use mathlib.Core.Bool.{Bool, true, _&&_, _||_, cond}
+use mathlib.Core.Bool.{Bool, true, _&&_}
 use mathlib.Core.List.{List, [], _∷_, List·Memᴰ, Memᴰ·cast}
 use Prim.Native.Nat.{ℕ, _+_}
 use lib.Dec.{eqb}
 use lib.ListN.{length}
 use borrow.Author.Tests.{eqb-true, eq-eqb}
 use Rattle.ints.proofs.Truth.{and-true, and-left, and-right}
-use Rattle.ints.proofs.Members.{passing, passing-in, passing-has, some, some-passes, passes-some}
+use Rattle.ints.proofs.Lists.{passing, passing-in, passing-has, some-passes, passes-some}
 use Rattle.ints.proofs.Marks.{bit, counted}
 use Rattle.grid.specs.Units.{cells}
 use Rattle.grid.specs.Curve.{cellOfNumber}
@@ -30,7 +30,7 @@ use Rattle.methods.proofs.Methods.{choice-on, choice-once}
 use Rattle.methods.proofs.Marks.{one-more, cells-counted}
 use Rattle.ledger.specs.Machine.{Ledger, Held, placeIn, speedsPlaced, rowsIn, choiceIn, listedHeld, isUseful, usefulCells}
 use Rattle.ledger.proofs.MachineLaws.{speed-placed}
-use Rattle.asking.proofs.AskLaws.{FitAsk, fit-in-order}
+use Rattle.asking.proofs.PhaseReadingLaws.{FitAsk, fit-in-order}
 use Rattle.history.proofs.Relation.{Good}
 use Rattle.history.proofs.PlacedRows.{speeds-valid}
 

@@ -3,7 +3,7 @@ pub mod Least
 pub mod Machine
 pub mod Truth
 pub mod Same
+pub mod Stretches
 pub mod Lists
-pub mod Members
 pub mod Marks
 pub mod Rising

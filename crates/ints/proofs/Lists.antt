@@ -1,72 +1,150 @@
--- Laws of lists: a stretch of a list moved by some places, and a stretch written over.
+-- Lists by membership: what a function makes of the elements, the elements that pass a test, and whether one passes or all do.
 -- Assumes nothing.
-use mathlib.Core.Path.{_≡_, sym, ap, _∙_}
-use mathlib.Core.List.{List, _∷_, _++_, append-nil}
-use Prim.Native.Nat.{ℕ, suc, _+_, _-_, _≤_, _<_}
-use native.Mathlib.Numerals.{add-one}
-use native.Mathlib.Omega.{arith}
-use lib.ListN.{length, getD, set, take, drop, length-drop, length-take, List·getD-append, drop-of-length-le}
-use lib.Seq.{take-suc, drop-cons, getD-take, getD-drop, set-at, length-take-le, take-all, append-snoc, getD-append-add}
+use mathlib.Core.Path.{_≡_, refl, sym, ap, ap₂, _∙_}
+use mathlib.Core.Bool.{Bool, true, false, _||_, cond}
+use mathlib.Core.List.{List, [], _∷_, _++_, map, List·Memᴰ, List·Memᴰ·head, List·Memᴰ·tail, List·Memᴰ·cases-cons, List·Memᴰ·not-nil}
+use mathlib.Core.Logic.{⊎-elim}
+unfoldable pub use Rattle.ints.specs.Lists.{passing, some, every}
+use Rattle.ints.proofs.Parts.{true-false}
+use Rattle.ints.proofs.Truth.{or-left, or-right, and-true, and-left, and-right}
 
-module _ {A : Type 0} (d : A) where
-  -- ---- every element but the last m moved up by m places, from the back: i is the place that was written last
-  module _ (m : ℕ) (l : List A) where
-    abbrev pub movedUp : ℕ → List A
-    movedUp i = take i l ++ drop (i - m) (take (length l - m) l)
+pub false-of : (b : Bool) → (b ≡ true → ⊥) → b ≡ false
+false-of true n = absurd (n refl)
+false-of false n = refl
 
-    pub up-start : m ≤ length l → l ≡ movedUp (length l)
-    up-start h =
-        let e : length (take (length l - m) l) ≤ length l - m = simp length-take (omega arith) in
-        sym (rw (take-all (length l) l (omega arith), drop-of-length-le (take (length l - m) l) e, append-nil l))
+-- ---- what a function makes of the elements
 
-    pub up-more : (i : ℕ) → m ≤ i → i < length l → set (movedUp (suc i)) i (getD (movedUp (suc i)) (i - m) d) ≡ movedUp i
-    up-more i h g =
-        let t = take (length l - m) l in
-        let v = getD l (i - m) d in
-        let rest = drop (suc i - m) t in
-        let long : i - m < length (take (suc i) l) = simp length-take (omega arith) in
-        let read : getD (movedUp (suc i)) (i - m) d ≡ v =
-        List·getD-append (take (suc i) l) rest d (i - m) long ∙ getD-take (suc i) l (i - m) d (omega arith) in
-        let split : movedUp (suc i) ≡ take i l ++ (getD l i d ∷ rest) = rw (take-suc l i d g, append-snoc) in
-        let short : i - m < length t = simp length-take (omega arith) in
-        let next : drop (i - m) t ≡ v ∷ rest =
-        drop-cons t (i - m) d short
-        ∙ (λ k. getD-take (length l - m) l (i - m) d (omega arith) k ∷ drop (later k) t) in
-        ap (λ (x : A). set (movedUp (suc i)) i x) read
-        ∙ ap (λ (x : List A). set x i v) split
-        ∙ set-at (take i l) (getD l i d) rest v i (length-take-le i l (omega arith))
-        ∙ ap (λ (x : List A). take i l ++ x) (sym next)
-      where
-        later : suc (i - m) ≡ suc i - m
-        later = omega arith
+pub map-has : {A B : Type 0} (f : A → B) (xs : List A) {a : A} → List·Memᴰ a xs → List·Memᴰ (f a) (map f xs)
+map-has f [] m = absurd (List·Memᴰ·not-nil m)
+map-has f (b ∷ bs) m =
+    ⊎-elim (λ p. List·Memᴰ·head (ap f p)) (λ k. List·Memᴰ·tail (map-has f bs k)) (List·Memᴰ·cases-cons m)
 
-    pub up-end : movedUp m ≡ take m l ++ take (length l - m) l
-    up-end = let e : m - m ≡ 0 = omega arith in rw e
+pub map-in : {A B : Type 0} (f : A → B) (xs : List A) {b : B} → List·Memᴰ b (map f xs) → (a : A) × List·Memᴰ a xs × (b ≡ f a)
+map-in f [] m = absurd (List·Memᴰ·not-nil m)
+map-in f (a ∷ xs) m =
+    ⊎-elim (λ p. (a, List·Memᴰ·head refl, p)) (λ k. let r = map-in f xs k in (r .0, List·Memᴰ·tail (r .1), r .2)) (List·Memᴰ·cases-cons m)
 
-  -- ---- every element but the first m moved down by m places, from the front: i places are written
-  module _ (m : ℕ) (l : List A) where
-    abbrev pub movedDown : ℕ → List A
-    movedDown i = take i (drop m l) ++ drop i l
+pub map-append : {A B : Type 0} (f : A → B) (xs ys : List A) → map f (xs ++ ys) ≡ map f xs ++ map f ys
+map-append f [] ys = refl
+map-append {A} {B} f (x ∷ xs) ys = ap (λ (l : List B). f x ∷ l) (map-append f xs ys)
 
-    pub down-more : (i : ℕ) → m + i < length l → set (movedDown i) i (getD (movedDown i) (i + m) d) ≡ movedDown (i + 1)
-    down-more i h =
-        let v = getD l (i + m) d in
-        let w = take i (drop m l) in
-        let long : length w ≡ i = simp (length-take, length-drop) (omega arith) in
-        let at : getD (w ++ drop i l) (length w + m) d ≡ getD (drop i l) m d = getD-append-add w (drop i l) m d in
-        let read : getD (movedDown i) (i + m) d ≡ v = rw long at at ∙ getD-drop i l m d in
-        let split : movedDown i ≡ w ++ (getD l i d ∷ drop (suc i) l) =
-        ap (λ (x : List A). w ++ x) (drop-cons l i d (omega arith)) in
-        let short : i < length (drop m l) = simp length-drop (omega arith) in
-        let same : m + i ≡ i + m = omega arith in
-        let last : getD (drop m l) i d ≡ v = getD-drop m l i d ∙ ap (λ (k : ℕ). getD l k d) same in
-        let next : movedDown (i + 1) ≡ w ++ (v ∷ drop (suc i) l) = rw (add-one, take-suc (drop m l) i d short, last, append-snoc) in
-        ap (λ (x : A). set (movedDown i) i x) read
-        ∙ ap (λ (x : List A). set x i v) split
-        ∙ set-at w (getD l i d) (drop (suc i) l) v i long
-        ∙ sym next
+-- ---- the elements that pass
 
-    pub down-end : (i : ℕ) → i ≡ length l - m → movedDown i ≡ drop m l ++ drop (length l - m) l
-    down-end i e =
-        let long : length (drop m l) ≤ length l - m = simp length-drop (omega arith) in
-        rw (e, take-all (length l - m) (drop m l) long)
+pub passing-in : {A : Type 0} (f : A → Bool) (xs : List A) {a : A} → List·Memᴰ a (passing f xs) → List·Memᴰ a xs × (f a ≡ true)
+unfolding passing
+passing-in f [] m = absurd (List·Memᴰ·not-nil m)
+passing-in {A} f (b ∷ bs) {a} m = go (f b) refl m (λ k. passing-in f bs k)
+  where
+    go : (t : Bool) → f b ≡ t → List·Memᴰ a (cond t (b ∷ passing f bs) (passing f bs)) → (List·Memᴰ a (passing f bs) → List·Memᴰ a bs × (f a ≡ true)) → List·Memᴰ a (b ∷ bs) × (f a ≡ true)
+    go true e k ih =
+        ⊎-elim (λ (p : a ≡ b). (List·Memᴰ·head p, ap f p ∙ e)) (λ n. let r = ih n in (List·Memᴰ·tail (r .0), r .1)) (List·Memᴰ·cases-cons k)
+    go false e k ih = let r = ih k in (List·Memᴰ·tail (r .0), r .1)
+
+pub passing-has : {A : Type 0} (f : A → Bool) (xs : List A) {a : A} → List·Memᴰ a xs → f a ≡ true → List·Memᴰ a (passing f xs)
+unfolding passing
+passing-has f [] m h = absurd (List·Memᴰ·not-nil m)
+passing-has {A} f (b ∷ bs) {a} m h = go (f b) refl (λ k. passing-has f bs k h)
+  where
+    go : (t : Bool) → f b ≡ t → (List·Memᴰ a bs → List·Memᴰ a (passing f bs)) → List·Memᴰ a (cond t (b ∷ passing f bs) (passing f bs))
+    go true e ih = ⊎-elim (λ p. List·Memᴰ·head p) (λ k. List·Memᴰ·tail (ih k)) (List·Memᴰ·cases-cons m)
+    go false e ih = ⊎-elim (λ (p : a ≡ b). absurd (true-false (sym h ∙ ap f p ∙ e))) ih (List·Memᴰ·cases-cons m)
+
+-- two tests that agree on a list pass the same elements
+pub passing-same : {A : Type 0} (f g : A → Bool) (xs : List A) → ((a : A) → List·Memᴰ a xs → f a ≡ g a) → passing f xs ≡ passing g xs
+unfolding passing
+passing-same f g [] h = refl
+passing-same {A} f g (a ∷ xs) h =
+    let rest = passing-same f g xs (λ b m. h b (List·Memᴰ·tail m)) in
+    ap₂ (λ (t : Bool) (more : List A). cond t (a ∷ more) more) (h a (List·Memᴰ·head refl)) rest
+
+pub passing-append : {A : Type 0} (f : A → Bool) (xs ys : List A) → passing f (xs ++ ys) ≡ passing f xs ++ passing f ys
+unfolding passing
+passing-append f [] ys = refl
+passing-append {A} f (x ∷ xs) ys = go (f x) (passing-append f xs ys)
+  where
+    go : (t : Bool) → passing f (xs ++ ys) ≡ passing f xs ++ passing f ys → cond t (x ∷ passing f (xs ++ ys)) (passing f (xs ++ ys)) ≡ cond t (x ∷ passing f xs) (passing f xs) ++ passing f ys
+    go true e = ap (λ (l : List A). x ∷ l) e
+    go false e = e
+
+-- where all pass, and where none does
+pub passing-all : {A : Type 0} (f : A → Bool) (xs : List A) → ((a : A) → List·Memᴰ a xs → f a ≡ true) → passing f xs ≡ xs
+unfolding passing
+passing-all f [] h = refl
+passing-all {A} f (x ∷ xs) h =
+    rw (h x (List·Memᴰ·head refl)) (ap (λ (l : List A). x ∷ l) (passing-all f xs (λ a m. h a (List·Memᴰ·tail m))))
+
+pub passing-none : {A : Type 0} (f : A → Bool) (xs : List A) → ((a : A) → List·Memᴰ a xs → f a ≡ false) → passing f xs ≡ []
+unfolding passing
+passing-none f [] h = refl
+passing-none f (x ∷ xs) h = rw (h x (List·Memᴰ·head refl)) (passing-none f xs (λ a m. h a (List·Memᴰ·tail m)))
+
+-- of those that pass a test g, all that pass f, where f passes no element that g does not
+pub passing-twice : {A : Type 0} (f g : A → Bool) (xs : List A) → ((a : A) → f a ≡ true → g a ≡ true) → passing f (passing g xs) ≡ passing f xs
+unfolding passing
+passing-twice f g [] h = refl
+passing-twice {A} f g (x ∷ xs) h = go (g x) refl (f x) refl (passing-twice f g xs h)
+  where
+    go : (t : Bool) → g x ≡ t → (u : Bool) → f x ≡ u → passing f (passing g xs) ≡ passing f xs
+        → passing f (cond t (x ∷ passing g xs) (passing g xs)) ≡ cond u (x ∷ passing f xs) (passing f xs)
+    go true e u k same = rw (k, same)
+    go false e true k same = absurd (true-false (sym (h x k) ∙ e))
+    go false e false k same = same
+
+-- what a function makes of the elements that pass, of one element more
+pub map-passing : {A B : Type 0} (g : A → B) (f : A → Bool) (a : A) (xs : List A)
+    → map g (passing f (a ∷ xs)) ≡ cond (f a) (g a ∷ map g (passing f xs)) (map g (passing f xs))
+unfolding passing
+map-passing g f a xs = go (f a)
+  where
+    go : (t : Bool) → map g (cond t (a ∷ passing f xs) (passing f xs)) ≡ cond t (g a ∷ map g (passing f xs)) (map g (passing f xs))
+    go true = refl
+    go false = refl
+
+-- ---- whether one passes
+
+pub some-passes : {A : Type 0} (f : A → Bool) (xs : List A) → some f xs ≡ true → (a : A) × List·Memᴰ a xs × (f a ≡ true)
+unfolding some
+some-passes f [] h = absurd (true-false (sym h))
+some-passes {A} f (b ∷ bs) h = go (f b) refl h (λ k. some-passes f bs k)
+  where
+    go : (t : Bool) → f b ≡ t → t || some f bs ≡ true → (some f bs ≡ true → (a : A) × List·Memᴰ a bs × (f a ≡ true)) → (a : A) × List·Memᴰ a (b ∷ bs) × (f a ≡ true)
+    go true e k ih = (b, List·Memᴰ·head refl, e)
+    go false e k ih = let r = ih k in (r .0, List·Memᴰ·tail (r .1), r .2)
+
+pub passes-some : {A : Type 0} (f : A → Bool) (xs : List A) {a : A} → List·Memᴰ a xs → f a ≡ true → some f xs ≡ true
+unfolding some
+passes-some f [] m h = absurd (List·Memᴰ·not-nil m)
+passes-some {A} f (b ∷ bs) {a} m h =
+    ⊎-elim (λ (p : a ≡ b). or-left (f b) (some f bs) (sym (ap f p) ∙ h))
+    (λ k. or-right (f b) (some f bs) (passes-some f bs k h))
+    (List·Memᴰ·cases-cons m)
+
+-- where none passes, each one fails, and none of some of them passes
+pub none-passes : {A : Type 0} (f : A → Bool) (xs : List A) {a : A} → some f xs ≡ false → List·Memᴰ a xs → f a ≡ false
+none-passes f xs {a} n m = false-of (f a) (λ h. true-false (sym (passes-some f xs m h) ∙ n))
+
+pub passing-some : {A : Type 0} (f g : A → Bool) (xs : List A) → some f xs ≡ false → some f (passing g xs) ≡ false
+passing-some f g xs n =
+    false-of (some f (passing g xs)) (λ h.
+    let a = some-passes f (passing g xs) h in
+    true-false (sym (passes-some f xs (passing-in g xs (a .1) .0) (a .2)) ∙ n))
+
+pub some-map : {A B : Type 0} (f : B → Bool) (g : A → B) (xs : List A) → some f (map g xs) ≡ some (λ a. f (g a)) xs
+unfolding some
+some-map f g [] = refl
+some-map f g (x ∷ xs) = ap (λ (t : Bool). f (g x) || t) (some-map f g xs)
+
+-- ---- whether all pass
+
+pub every-each : {A : Type 0} (f : A → Bool) (xs : List A) {a : A} → every f xs ≡ true → List·Memᴰ a xs → f a ≡ true
+unfolding every
+every-each f [] h m = absurd (List·Memᴰ·not-nil m)
+every-each {A} f (b ∷ bs) {a} h m =
+    ⊎-elim (λ (p : a ≡ b). ap f p ∙ and-left (f b) (every f bs) h)
+    (λ k. every-each f bs (and-right (f b) (every f bs) h) k)
+    (List·Memᴰ·cases-cons m)
+
+pub each-every : {A : Type 0} (f : A → Bool) (xs : List A) → ((a : A) → List·Memᴰ a xs → f a ≡ true) → every f xs ≡ true
+unfolding every
+each-every f [] h = refl
+each-every f (a ∷ xs) h = and-true (f a) (every f xs) (h a (List·Memᴰ·head refl)) (each-every f xs (λ b m. h b (List·Memᴰ·tail m)))

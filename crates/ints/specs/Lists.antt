@@ -1,5 +1,5 @@
 -- The elements of a list that pass a test, whether one does and whether all do: the one filter, "some" and "all" of the definitions of the other
--- crates. Their laws are in proofs/Members.antt.
+-- crates. Their laws are in proofs/Lists.antt.
 -- Assumes nothing.
 use mathlib.Core.Bool.{Bool, true, false, _&&_, _||_, cond}
 use mathlib.Core.List.{List, [], _∷_}

@@ -1,6 +1,6 @@
 pub mod Examples
 pub mod MachineLaws
-pub mod OrderLaws
-pub mod SumLaws
-pub mod VerdictLaws
+pub mod IdsInOrderLaws
+pub mod SummedLaws
+pub mod RefusalsLaws
 pub mod Claims

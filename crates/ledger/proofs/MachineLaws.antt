@@ -2,7 +2,7 @@
 -- Assumes nothing.
 use mathlib.Core.Path.{_≡_, refl, sym, ap, _∙_}
 use mathlib.Core.Bool.{Bool, true, false, cond, _&&_, _||_}
-use mathlib.Core.List.{List, [], _∷_, _++_, map, List·Memᴰ, List·Memᴰ·head, List·Memᴰ·tail, List·Memᴰ·cases-cons, List·Memᴰ·not-nil}
+use mathlib.Core.List.{List, [], _∷_, _++_, map, List·Memᴰ, List·Memᴰ·head, List·Memᴰ·tail, List·Memᴰ·cases-cons}
 use mathlib.Core.Logic.{⊎-elim}
 use Prim.Native.Nat.{ℕ, suc, _≤_}
 use native.Mathlib.Omega.{arith}
@@ -14,7 +14,7 @@ use Rattle.ints.specs.Whole.{eqZ}
 use Rattle.ints.specs.Lists.{passing, some}
 use Rattle.ints.proofs.Parts.{true-false}
 use Rattle.ints.proofs.Truth.{and-true, and-left}
-use Rattle.ints.proofs.Members.{false-of, map-in, map-has, map-append, passing-in, passing-has, passing-append, passing-none, passing-twice}
+use Rattle.ints.proofs.Lists.{false-of, map-in, map-has, map-append, passing-in, passing-has, passing-append, passing-none, passing-twice}
 use Rattle.grid.specs.Places.{sameCell}
 use Rattle.grid.specs.declared.Cell.{Cell}
 use Rattle.grid.proofs.Places.{cell-same}

@@ -1,7 +1,7 @@
 -- The plain ledger: document 01, "The plain ledger". It keeps the time, the held reports and the placements, and knows nothing of buffers, keys
 -- or slots.
 -- Assumes nothing.
-use mathlib.Core.Bool.{Bool, false, _&&_, _||_, cond, not}
+use mathlib.Core.Bool.{Bool, _&&_, cond, not}
 use mathlib.Core.List.{List, [], _∷_, _++_, map}
 use Prim.Native.Nat.{ℕ, _+_}
 use lib.Dec.{eqb, leb}

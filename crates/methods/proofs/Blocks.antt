@@ -9,7 +9,7 @@ use Prim.Native.Nat.{ℕ, zero, suc, _+_, _≤_, _<_}
 use native.Mathlib.Decide.{ℕ-discrete}
 use native.Mathlib.Omega.{arith}
 use Rattle.ints.specs.Lists.{passing}
-use Rattle.ints.proofs.Members.{passing-in}
+use Rattle.ints.proofs.Lists.{passing-in}
 use Rattle.grid.specs.Places.{OnGrid}
 use Rattle.grid.specs.Curve.{cell}
 use Rattle.grid.specs.declared.Cell.{Cell}

@@ -6,7 +6,7 @@ use mathlib.Core.Bool.{Bool, true, false}
 use mathlib.Core.List.{List·Memᴰ, List·Memᴰ·not-nil}
 use Prim.Native.Nat.{ℕ, zero, suc, _+_, _-_}
 use native.Mathlib.Omega.{arith}
-use Rattle.ints.proofs.Members.{passing-in, passing-has}
+use Rattle.ints.proofs.Lists.{passing-in, passing-has}
 use Rattle.grid.specs.Places.{OnGrid}
 use Rattle.grid.specs.Reports.{cellAtTime, isListed}
 use Rattle.grid.specs.declared.Cell.{Cell}

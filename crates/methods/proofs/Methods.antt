@@ -5,7 +5,7 @@ use mathlib.Core.Bool.{Bool, true, false, _&&_, not}
 use mathlib.Core.List.{List, [], _∷_, map, List·Memᴰ, List·Memᴰ·head, List·Memᴰ·tail, List·Memᴰ·not-nil}
 use Prim.Native.Nat.{ℕ, zero, suc}
 use native.Mathlib.Omega.{arith}
-use Rattle.ints.proofs.Members.{passing-in, passing-same}
+use Rattle.ints.proofs.Lists.{passing-in, passing-same}
 use Rattle.grid.specs.Places.{OnGrid}
 use Rattle.grid.specs.declared.Cell.{Cell}
 use Rattle.rows.specs.Row.{emptyRow, isEmpty, sameRow, boundsOf}

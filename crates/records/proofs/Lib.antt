@@ -1,8 +1,8 @@
-pub mod RecordLaws
-pub mod PlaceLaws
-pub mod SoundLawsRanges
-pub mod SoundLawsKeys
-pub mod SoundLawsTurns
-pub mod SoundLawsMarks
-pub mod SoundLaws
+pub mod RecordsLaws
+pub mod PlacesLaws
+pub mod RangeLaws
+pub mod KeyLaws
+pub mod TurnLaws
+pub mod IdMarkLaws
+pub mod SoundnessLaws
 pub mod OrderLaws

@@ -1,4 +1,4 @@
 pub mod RowLaws
-pub mod PhaseLaws
+pub mod PhasesLaws
 pub mod TableLaws
 pub mod SlotLaws

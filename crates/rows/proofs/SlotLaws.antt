@@ -14,7 +14,7 @@ use lib.ListN.{length}
 use Rattle.grid.specs.Units.{cells}
 use Rattle.rows.specs.Phases.{isLive, livePhases, slotOf, slots}
 use Rattle.rows.specs.Table.{tableWords, rowAt, withSlotEmpty, withLaterEmpty, withNewlyLiveEmpty}
-use Rattle.rows.proofs.PhaseLaws.{live-range, range-live, listed-live, slot-on}
+use Rattle.rows.proofs.PhasesLaws.{live-range, range-live, listed-live, slot-on}
 use Rattle.rows.proofs.TableLaws.{emptiedIfLater, length-later-empty, row-kept}
 
 -- the live phase with the slot of an earlier phase, the current phase being c

@@ -21,7 +21,7 @@ use Rattle.rows.specs.Phases.{isLive, livePhases, slotOf, slots}
 use Rattle.rows.specs.Table.{slotWords, tableWords, rowFrom, rowPlace, rowAt, withRow, emptyRows, withSlotEmpty, withLaterEmpty, withNewlyLiveEmpty, validRows, validTable}
 use Rattle.rows.specs.declared.Row.{Row}
 use Rattle.rows.proofs.RowLaws.{same-numbers}
-use Rattle.rows.proofs.PhaseLaws.{listed-live, live-listed, same-slot, slot-on}
+use Rattle.rows.proofs.PhasesLaws.{listed-live, live-listed, same-slot, slot-on}
 
 -- two rows of words are the same where their four words are
 rows-agree : (s t : List ℤ) (j k : ℕ) → ((m : ℕ) → m < 4 → getD s (j + m) (pos 0) ≡ getD t (k + m) (pos 0)) → rowFrom s j ≡ rowFrom t k

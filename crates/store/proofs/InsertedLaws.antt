@@ -14,7 +14,7 @@ use Rattle.ints.specs.Lists.{some, every}
 use Rattle.ints.proofs.Parts.{true-false}
 use Rattle.ints.proofs.Truth.{and-left, and-right, or-swap}
 use Rattle.ints.proofs.Same.{same-comm}
-use Rattle.ints.proofs.Members.{none-passes, every-each, each-every}
+use Rattle.ints.proofs.Lists.{none-passes, every-each, each-every}
 use Rattle.records.specs.Order.{precedes, isSorted, hasId}
 use Rattle.records.specs.Soundness.{idsDistinct}
 use Rattle.records.specs.declared.Record.{Record}

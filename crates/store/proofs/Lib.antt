@@ -1,7 +1,7 @@
-pub mod ChangeLaws
+pub mod ChangesLaws
 pub mod InsertedLaws
 pub mod RemovedLaws
 pub mod SteppedLaws
-pub mod MergeLaws
-pub mod StepLaws
-pub mod SpeedLaws
+pub mod SortingLaws
+pub mod StepWordsLaws
+pub mod WidenedLaws

@@ -11,7 +11,7 @@ use lib.ListN.{length}
 use Rattle.ints.specs.Whole.{eqZ}
 use Rattle.ints.specs.Lists.{some, every}
 use Rattle.ints.proofs.Parts.{true-false}
-use Rattle.ints.proofs.Members.{every-each, each-every}
+use Rattle.ints.proofs.Lists.{every-each, each-every}
 use Rattle.records.specs.Order.{precedes, isSorted, hasId}
 use Rattle.records.specs.declared.Record.{Record}
 use Rattle.records.proofs.OrderLaws.{sorted-all, sorted-rest, sorted-cons, before-all, first-id, rest-other}

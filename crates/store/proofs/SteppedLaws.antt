@@ -14,16 +14,16 @@ use Rattle.ints.specs.Lists.{passing, some}
 use Rattle.ints.proofs.Parts.{true-false}
 use Rattle.ints.proofs.Truth.{or-swap}
 use Rattle.ints.proofs.Same.{same-comm}
-use Rattle.ints.proofs.Members.{map-in, passing-in, none-passes, passing-some, some-map, every-each, each-every}
+use Rattle.ints.proofs.Lists.{map-in, passing-in, none-passes, passing-some, some-map, every-each, each-every}
 use Rattle.rows.specs.Phases.{phaseOf}
 use Rattle.records.specs.Order.{precedes, isSorted, hasId}
 use Rattle.records.specs.Soundness.{isRanged, allRanged, idsDistinct}
 use Rattle.records.specs.declared.Record.{Record}
-use Rattle.records.proofs.SoundLawsRanges.{ranged-parts, parts-ranged}
-use Rattle.records.proofs.SoundLawsKeys.{key-in-below}
+use Rattle.records.proofs.RangeLaws.{ranged-parts, parts-ranged}
+use Rattle.records.proofs.KeyLaws.{key-in-below}
 use Rattle.records.proofs.OrderLaws.{sorted-all, sorted-rest, sorted-cons, before-all, rest-other, first-alone, rest-distinct, distinct-cons}
 use Rattle.store.specs.Changes.{inserted, insertedAll, placedIn, stays, moves, replaced, steppedRecords}
-use Rattle.store.proofs.InsertedLaws.{inserted-front, inserted-all-swap, all-length, all-every, has-all, Apart, all-sorted}
+use Rattle.store.proofs.InsertedLaws.{inserted-front, inserted-all-swap, all-length, all-every, has-all, all-sorted}
 
 -- ---- of some records, those that pass a test
 

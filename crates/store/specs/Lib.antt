@@ -1,3 +1,3 @@
 pub mod Changes
-pub mod Walks
-pub mod Merging
+pub mod Needs
+pub mod Sorting

@@ -16,7 +16,7 @@ ghost use Rattle.records.specs.Order.{precedes, hasId};
 ghost use Rattle.records.specs.Soundness.{isRanged, allRanged, IsStore};
 ghost use Rattle.store.specs.Changes.{inserted, insertedAll, removed, placedIn, stays, moves, replaced, steppedRecords, widenedBy, widenedByAll};
 ghost use Rattle.records.specs.Places.{HasWords};
-ghost use Rattle.store.specs.Walks.{placeOf, indexOf, IsStep, KeptFirst, Taken, PlaceAsked};
+ghost use Rattle.store.specs.Needs.{placeOf, indexOf, IsStep, KeptFirst, Taken, PlaceAsked};
 use super::opening::clear;
 use super::sorting::put_all;
 use super::writing::set_held;

@@ -1,2 +1,2 @@
-pub mod StepLaws
-pub mod PlaceLaws
+pub mod SteppedLaws
+pub mod PlacedLaws

@@ -16,7 +16,7 @@ use Rattle.records.specs.Order.{hasId}
 use Rattle.records.specs.Soundness.{IsStore}
 use Rattle.records.specs.Words.{Words, timeIn, recordsIn, areSound}
 use Rattle.store.specs.Changes.{steppedRecords}
-use Rattle.store.specs.Walks.{IsStep}
+use Rattle.store.specs.Needs.{IsStep}
 use Rattle.store.specs.declared.changes.Step.{Step}
 use Rattle.words.specs.Words.{tableStepped}
 

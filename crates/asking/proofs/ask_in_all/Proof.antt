@@ -10,9 +10,9 @@ use mir.Syntax.{w64}
 use native.Mathlib.Omega.{arith}
 use Rattle.ints.proofs.Machine.{tested₁}
 use Rattle.rows.specs.Phases.{phaseOf, isLive, livePhases}
-use Rattle.rows.proofs.PhaseLaws.{range-live}
+use Rattle.rows.proofs.PhasesLaws.{range-live}
 use Rattle.records.specs.Words.{Words, words, timeIn}
-use Rattle.records.proofs.RecordLaws.{store-words-of}
+use Rattle.records.proofs.RecordsLaws.{store-words-of}
 use Rattle.asking.specs.Asking.{phasesNow}
 use Rattle.asking.specs.Counted.{CanAskIn, CountedIn}
 use Rattle.asking.proofs.AskingLaws.{ask-store, sum-small, small-room, over-one, over-two, over-three, phases-one, phases-two, phases-three}

@@ -1,7 +1,7 @@
 -- `asking::read_in` meets its contract: the set read in the phase's slot.
 -- Assumes nothing.
 use borrow.Author.Needs.{needs}
-use Rattle.rows.proofs.PhaseLaws.{slot-on}
+use Rattle.rows.proofs.PhasesLaws.{slot-on}
 use Rattle.asking.proofs.read_in.Statement.{statement}
 use Rattle.asking.proofs.read_in.Tie as tie
 

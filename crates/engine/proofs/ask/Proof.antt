@@ -3,7 +3,7 @@
 use borrow.Author.Needs.{needs}
 use Rattle.records.specs.Words.{words}
 use Rattle.engine.specs.Index.{askOut}
-use Rattle.engine.proofs.CheckLaws.{lent-failed, lent-sound}
+use Rattle.engine.proofs.ChecksLaws.{lent-failed, lent-sound}
 use Rattle.engine.proofs.GivesLaws.{list-refused}
 use Rattle.engine.proofs.ask.Statement.{statement}
 use Rattle.engine.proofs.ask.Tie as tie

@@ -3,7 +3,7 @@
 use borrow.Author.Needs.{needs}
 use Rattle.records.specs.Words.{words}
 use Rattle.engine.specs.Index.{changeOut}
-use Rattle.engine.proofs.CheckLaws.{lent-failed, lent-sound}
+use Rattle.engine.proofs.ChecksLaws.{lent-failed, lent-sound}
 use Rattle.engine.proofs.GivesLaws.{refused}
 use Rattle.engine.proofs.change.Statement.{statement}
 use Rattle.engine.proofs.change.Tie as tie

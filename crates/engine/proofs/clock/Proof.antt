@@ -8,7 +8,7 @@ use Rattle.ints.proofs.Machine.{held}
 use Rattle.records.specs.Words.{words}
 use Rattle.engine.specs.Gives.{Gives}
 use Rattle.engine.specs.Index.{clockOut}
-use Rattle.engine.proofs.CheckLaws.{lent-failed, lent-sound}
+use Rattle.engine.proofs.ChecksLaws.{lent-failed, lent-sound}
 use Rattle.engine.proofs.GivesLaws.{refused}
 use Rattle.engine.proofs.clock.Statement.{statement}
 use Rattle.engine.proofs.clock.Tie as tie

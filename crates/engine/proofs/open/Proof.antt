@@ -10,7 +10,7 @@ use Rattle.ledger.specs.Refusals.{firstToFail}
 use Rattle.words.specs.Words.{opened}
 use Rattle.engine.specs.Needs.{Done}
 use Rattle.engine.specs.Index.{openChecks, openOut}
-use Rattle.engine.proofs.CheckLaws.{opens-rightly}
+use Rattle.engine.proofs.ChecksLaws.{opens-rightly}
 use Rattle.engine.proofs.GivesLaws.{refused, done}
 use Rattle.engine.proofs.open.Statement.{statement}
 use Rattle.engine.proofs.open.Tie as tie

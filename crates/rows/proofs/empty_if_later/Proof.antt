@@ -5,7 +5,7 @@ use borrow.Author.Tests.{lt-ltb, le-ltb}
 use borrow.Author.Needs.{needs}
 use denote.Ref.{now}
 use Rattle.rows.specs.Table.{withSlotEmpty}
-use Rattle.rows.proofs.PhaseLaws.{slot-on}
+use Rattle.rows.proofs.PhasesLaws.{slot-on}
 use Rattle.rows.proofs.empty_if_later.Statement.{statement}
 use Rattle.rows.proofs.empty_if_later.Tie as tie
 

@@ -3,7 +3,7 @@
 use native.Mathlib.Omega.{arith}
 use Rattle.ints.proofs.Parts.{signed}
 use Rattle.ints.proofs.Machine.{known}
-use Rattle.rows.proofs.PhaseLaws.{phase-is}
+use Rattle.rows.proofs.PhasesLaws.{phase-is}
 use Rattle.rows.proofs.phase_of.Statement.{statement}
 use Rattle.rows.proofs.phase_of.Tie as tie
 

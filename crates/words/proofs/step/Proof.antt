@@ -8,13 +8,13 @@ use Rattle.ints.proofs.Machine.{back, held, wide-fits, wide-back}
 use lib.IntN.{ℤ}
 use Rattle.grid.specs.Reports.{isTime}
 use Rattle.rows.specs.Phases.{phaseOf}
-use Rattle.store.specs.Walks.{IsStep}
+use Rattle.store.specs.Needs.{IsStep}
 use Rattle.store.specs.declared.changes.Step.{Step}
 use Rattle.records.specs.Records.{nowOf, recordsOf, storeOf}
 use Rattle.records.specs.Words.{Words, words}
-use Rattle.records.proofs.RecordLaws.{store-words-of}
+use Rattle.records.proofs.RecordsLaws.{store-words-of}
 use Rattle.words.specs.Needs.{Moved}
-use Rattle.words.proofs.StepLaws.{is-store, time-now, same-step, can-move, moved-store, later-step}
+use Rattle.words.proofs.SteppedLaws.{is-store, time-now, same-step, can-move, moved-store, later-step}
 use Rattle.words.proofs.step.Statement.{statement}
 use Rattle.words.proofs.step.Tie as tie
 

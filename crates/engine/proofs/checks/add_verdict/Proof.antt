@@ -3,7 +3,7 @@
 use borrow.Author.Tests.{le-leb, lt-leb}
 use Rattle.grid.specs.Units.{capacity}
 use Rattle.ledger.specs.declared.Refusal.the-variants.{AlreadyHeld, Full}
-use Rattle.ledger.proofs.VerdictLaws.{fails, passes, none-fails}
+use Rattle.ledger.proofs.RefusalsLaws.{fails, passes, none-fails}
 use Rattle.engine.proofs.checks.add_verdict.Statement.{statement}
 use Rattle.engine.proofs.checks.add_verdict.Tie as tie
 

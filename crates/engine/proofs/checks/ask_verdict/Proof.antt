@@ -3,9 +3,9 @@
 use mathlib.Core.Path.{sym, _∙_}
 use borrow.Author.Needs.{needs}
 use native.Mathlib.Omega.{arith}
-use Rattle.records.proofs.RecordLaws.{store-words-of}
+use Rattle.records.proofs.RecordsLaws.{store-words-of}
 use Rattle.ledger.specs.declared.Refusal.the-variants.{BadTime, BadNumber}
-use Rattle.ledger.proofs.VerdictLaws.{fails, passes, none-fails}
+use Rattle.ledger.proofs.RefusalsLaws.{fails, passes, none-fails}
 use Rattle.engine.proofs.checks.ask_verdict.Statement.{statement}
 use Rattle.engine.proofs.checks.ask_verdict.Tie as tie
 

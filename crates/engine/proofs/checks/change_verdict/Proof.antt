@@ -9,13 +9,13 @@ use lib.IntN.{ℤ}
 use lib.ListN.{length}
 use Rattle.records.specs.Records.{nowOf, recordsOf}
 use Rattle.records.specs.Order.{hasId}
-use Rattle.records.proofs.RecordLaws.{held-records, store-words-of}
+use Rattle.records.proofs.RecordsLaws.{held-records, store-words-of}
 use Rattle.ledger.specs.Refusals.{firstToFail, badStepTime, timeOf, idOf, heldChecks, changeChecks}
 use Rattle.ledger.specs.declared.Verdict.{Verdict}
 use Rattle.engine.specs.Index.{checksOfChange}
 use Rattle.ledger.specs.declared.Refusal.the-variants.{BadTime, BadNumber}
-use Rattle.ledger.proofs.VerdictLaws.{fails, passes}
-use Rattle.engine.proofs.CheckLaws.{judged-after}
+use Rattle.ledger.proofs.RefusalsLaws.{fails, passes}
+use Rattle.engine.proofs.ChecksLaws.{judged-after}
 use Rattle.engine.proofs.checks.change_verdict.Statement.{statement}
 use Rattle.engine.proofs.checks.change_verdict.Tie as tie
 

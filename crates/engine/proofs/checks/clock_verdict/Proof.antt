@@ -7,9 +7,9 @@ use mir.Syntax.{w32}
 use Rattle.ints.proofs.Machine.{tested₁}
 use Rattle.records.specs.Records.{nowOf}
 use Rattle.ledger.specs.Refusals.{badStepTime}
-use Rattle.records.proofs.RecordLaws.{store-words-of}
+use Rattle.records.proofs.RecordsLaws.{store-words-of}
 use Rattle.ledger.specs.declared.Refusal.the-variants.{BadTime}
-use Rattle.ledger.proofs.VerdictLaws.{fails, passes, none-fails}
+use Rattle.ledger.proofs.RefusalsLaws.{fails, passes, none-fails}
 use Rattle.engine.proofs.checks.clock_verdict.Statement.{statement}
 use Rattle.engine.proofs.checks.clock_verdict.Tie as tie
 

@@ -1,8 +1,7 @@
 -- `engine::checks::held_verdict` meets its contract: not held is refused.
 -- Assumes nothing.
-use mathlib.Core.Bool.{not}
 use Rattle.ledger.specs.declared.Refusal.the-variants.{NotHeld}
-use Rattle.ledger.proofs.VerdictLaws.{fails, passes, none-fails}
+use Rattle.ledger.proofs.RefusalsLaws.{fails, passes, none-fails}
 use Rattle.engine.proofs.checks.held_verdict.Statement.{statement}
 use Rattle.engine.proofs.checks.held_verdict.Tie as tie
 

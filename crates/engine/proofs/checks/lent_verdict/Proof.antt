@@ -4,7 +4,7 @@ use mathlib.Core.Path.{sym, ap, _∙_}
 use borrow.Author.Needs.{needs}
 use mathlib.Core.Bool.{not}
 use Rattle.ledger.specs.declared.Refusal.the-variants.{WrongLength, Unsound}
-use Rattle.ledger.proofs.VerdictLaws.{fails, passes, none-fails}
+use Rattle.ledger.proofs.RefusalsLaws.{fails, passes, none-fails}
 use Rattle.engine.proofs.checks.lent_verdict.Statement.{statement}
 use Rattle.engine.proofs.checks.lent_verdict.Tie as tie
 

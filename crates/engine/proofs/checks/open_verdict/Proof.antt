@@ -7,7 +7,7 @@ use mir.Syntax.{w32}
 use Rattle.ints.proofs.Machine.{tested₁}
 use Rattle.grid.specs.Reports.{isTime}
 use Rattle.ledger.specs.declared.Refusal.the-variants.{WrongLength, BadTime}
-use Rattle.ledger.proofs.VerdictLaws.{fails, passes, none-fails}
+use Rattle.ledger.proofs.RefusalsLaws.{fails, passes, none-fails}
 use Rattle.engine.proofs.checks.open_verdict.Statement.{statement}
 use Rattle.engine.proofs.checks.open_verdict.Tie as tie
 

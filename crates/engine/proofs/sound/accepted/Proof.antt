@@ -3,7 +3,7 @@
 use mathlib.Core.Path.{sym, ap, _∙_}
 use borrow.Author.Needs.{needs}
 use Rattle.ledger.specs.declared.Answer.the-variants.{Accepted}
-use Rattle.records.proofs.RecordLaws.{held-records}
+use Rattle.records.proofs.RecordsLaws.{held-records}
 use Rattle.engine.proofs.sound.accepted.Statement.{statement}
 use Rattle.engine.proofs.sound.accepted.Tie as tie
 

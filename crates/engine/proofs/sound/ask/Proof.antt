@@ -7,7 +7,7 @@ use Rattle.asking.specs.Asking.{idsNeeded, askSettled, GivesList}
 use Rattle.records.specs.Words.{words, timeIn}
 use Rattle.ledger.specs.declared.Verdict.{Verdict}
 use Rattle.engine.specs.Index.{askOut}
-use Rattle.engine.proofs.CheckLaws.{sound-store, sound-lent, ask-passed, ask-failed, room-left}
+use Rattle.engine.proofs.ChecksLaws.{sound-store, sound-lent, ask-passed, ask-failed, room-left}
 use Rattle.engine.proofs.GivesLaws.{list-refused}
 use Rattle.engine.proofs.sound.ask.Statement.{statement}
 use Rattle.engine.proofs.sound.ask.Tie as tie

@@ -4,7 +4,7 @@ use mathlib.Core.Path.{sym, _∙_}
 use borrow.Author.Needs.{needs}
 use Rattle.records.specs.Words.{words}
 use Rattle.engine.specs.Index.{changeOut}
-use Rattle.engine.proofs.CheckLaws.{sound-store, sound-lent}
+use Rattle.engine.proofs.ChecksLaws.{sound-store, sound-lent}
 use Rattle.engine.proofs.GivesLaws.{refused, done}
 use Rattle.engine.proofs.sound.change.Statement.{statement}
 use Rattle.engine.proofs.sound.change.Tie as tie

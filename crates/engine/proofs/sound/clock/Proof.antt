@@ -11,10 +11,10 @@ use Rattle.records.specs.Records.{nowOf}
 use Rattle.words.specs.Words.{stepped}
 use Rattle.ledger.specs.Refusals.{firstToFail, badStepTime, clockChecks}
 use Rattle.ledger.specs.declared.Refusal.the-variants.{BadTime}
-use Rattle.ledger.proofs.VerdictLaws.{first-passed}
+use Rattle.ledger.proofs.RefusalsLaws.{first-passed}
 use Rattle.engine.specs.Needs.{Done}
 use Rattle.engine.specs.Index.{clockOut}
-use Rattle.engine.proofs.CheckLaws.{sound-store, sound-lent, can-step}
+use Rattle.engine.proofs.ChecksLaws.{sound-store, sound-lent, can-step}
 use Rattle.engine.proofs.GivesLaws.{refused, done}
 use Rattle.engine.proofs.sound.clock.Statement.{statement}
 use Rattle.engine.proofs.sound.clock.Tie as tie

@@ -7,13 +7,13 @@ use mir.Syntax.{w32}
 use lib.IntN.{ℤ}
 use Rattle.ints.proofs.Machine.{back, held}
 use Rattle.records.specs.Words.{Words, words}
-use Rattle.records.proofs.RecordLaws.{store-words-of}
+use Rattle.records.proofs.RecordsLaws.{store-words-of}
 use Rattle.words.specs.Words.{stepped}
 use Rattle.words.specs.Needs.{CanStep}
 use Rattle.ledger.specs.Refusals.{timeOf}
 use Rattle.engine.specs.Needs.{CanApply}
 use Rattle.engine.specs.Index.{changed}
-use Rattle.engine.proofs.CheckLaws.{sound-store, change-can-step, change-can-apply}
+use Rattle.engine.proofs.ChecksLaws.{sound-store, change-can-step, change-can-apply}
 use Rattle.engine.proofs.GivesLaws.{done-of}
 use Rattle.engine.proofs.sound.make_change.Statement.{statement}
 use Rattle.engine.proofs.sound.make_change.Tie as tie

@@ -2,20 +2,17 @@
 -- at the time as the machine reads it back. The measure is what is left of the records.
 -- Assumes nothing.
 use borrow.Author.Needs.{needs}
-use mathlib.Core.Path.{_≡_, refl, sym, ap, _∙_}
+use mathlib.Core.Path.{_≡_, sym, ap, _∙_}
 use Prim.Native.Nat.{_≤_, _-_, _*_}
 use native.Mathlib.Omega.{arith}
 use borrow.Author.Tests.{not-true, not-false}
 use mir.Syntax.{w32}
 use mir.Val.{toZ}
 use Rattle.ints.proofs.Machine.{back, held}
-use mathlib.Core.Bool.{true, _&&_}
-use mathlib.Core.List.{List, [], _∷_}
 use lib.IntN.{ℤ}
 use Rattle.records.specs.Records.{recordWords, recordFrom, readRecords}
 use Rattle.records.specs.Soundness.{isSoundRecord, allSound}
-use Rattle.records.specs.declared.Record.{Record}
-use Rattle.records.proofs.SoundLawsTurns.{left, left-at-first, failed-here, passed-here, passed-all}
+use Rattle.records.proofs.TurnLaws.{left, left-at-first, failed-here, passed-here, passed-all}
 use Rattle.records.proofs.soundness.all_sound.Statement.{statement}
 use Rattle.records.proofs.soundness.all_sound.Tie as tie
 

@@ -11,10 +11,10 @@ use Rattle.grid.specs.Curve.{curveNumber}
 use Rattle.grid.specs.Reports.{xAt, yAt, cellAtTime}
 use Rattle.grid.proofs.Places.{cell-on}
 use Rattle.rows.specs.Phases.{referenceTime}
-use Rattle.rows.proofs.PhaseLaws.{slot-on}
+use Rattle.rows.proofs.PhasesLaws.{slot-on}
 use Rattle.records.specs.Order.{keyIn}
-use Rattle.records.proofs.SoundLawsRanges.{small-report}
-use Rattle.records.proofs.SoundLawsKeys.{cell-number-below}
+use Rattle.records.proofs.RangeLaws.{small-report}
+use Rattle.records.proofs.KeyLaws.{cell-number-below}
 use borrow.Author.Needs.{needs}
 use Rattle.records.proofs.soundness.key_in.Statement.{statement}
 use Rattle.records.proofs.soundness.key_in.Tie as tie

@@ -2,17 +2,14 @@
 -- records from the i-th on do. The measure is what is left of the records.
 -- Assumes nothing.
 use borrow.Author.Needs.{needs}
-use mathlib.Core.Path.{_≡_, refl, sym, ap, _∙_}
-use mathlib.Core.Bool.{Bool, true, _&&_}
-use mathlib.Core.List.{List, [], _∷_}
+use mathlib.Core.Path.{_≡_, sym, ap, _∙_}
+use mathlib.Core.Bool.{true}
 use Prim.Native.Nat.{_≤_, _-_, _*_}
 use native.Mathlib.Omega.{arith}
 use borrow.Author.Tests.{not-true, not-false}
-use lib.IntN.{ℤ}
 use Rattle.records.specs.Records.{recordWords, recordFrom, readRecords}
 use Rattle.records.specs.Soundness.{inOwnRow, speedsInRows, allRanged}
-use Rattle.records.specs.declared.Record.{Record}
-use Rattle.records.proofs.SoundLawsTurns.{left, left-at-first, ranged-here, failed-here, passed-here, passed-all}
+use Rattle.records.proofs.TurnLaws.{left, left-at-first, ranged-here, failed-here, passed-here, passed-all}
 use Rattle.records.proofs.soundness.speeds_in_rows.Statement.{statement}
 use Rattle.records.proofs.soundness.speeds_in_rows.Tie as tie
 

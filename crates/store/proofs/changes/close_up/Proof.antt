@@ -1,7 +1,7 @@
 -- `store::changes::close_up` meets its contract: the words move down, and the last seven are zeroed.
 -- Assumes nothing.
 use borrow.Author.Needs.{needs}
-use Rattle.store.proofs.ChangeLaws.{closed-up}
+use Rattle.store.proofs.ChangesLaws.{closed-up}
 use Rattle.store.proofs.changes.close_up.Statement.{statement}
 use Rattle.store.proofs.changes.close_up.Tie as tie
 

@@ -1,8 +1,8 @@
 -- `store::changes::has_id` meets its contract: the walk over the records ends before the last.
 -- Assumes nothing.
 use native.Mathlib.Omega.{arith}
-use Rattle.records.proofs.PlaceLaws.{store-room}
-use Rattle.store.proofs.ChangeLaws.{id-found, index-read}
+use Rattle.records.proofs.PlacesLaws.{store-room}
+use Rattle.store.proofs.ChangesLaws.{id-found, index-read}
 use Rattle.store.proofs.changes.has_id.Statement.{statement}
 use Rattle.store.proofs.changes.has_id.Tie as tie
 

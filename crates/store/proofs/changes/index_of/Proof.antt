@@ -7,8 +7,8 @@ use lib.ListN.{drop}
 use mir.Syntax.{w32}
 use mir.Val.{toZ}
 use Rattle.records.specs.Records.{recordsOf, readRecords}
-use Rattle.store.specs.Walks.{indexOf}
-use Rattle.store.proofs.ChangeLaws.{walk-start, walk-more, id-tested, index-here, index-end}
+use Rattle.store.specs.Needs.{indexOf}
+use Rattle.store.proofs.ChangesLaws.{walk-start, walk-more, id-tested, index-here, index-end}
 use Rattle.store.proofs.changes.index_of.Statement.{statement}
 use Rattle.store.proofs.changes.index_of.Tie as tie
 

@@ -5,8 +5,8 @@ use lib.IntN.{pos}
 use mathlib.Core.Path.{_≡_, refl}
 use Prim.Native.Nat.{_+_, _-_, _≤_}
 use lib.ListN.{length, length-set}
-use Rattle.ints.proofs.Lists.{movedDown}
-use Rattle.store.proofs.ChangeLaws.{moved-down, down-done}
+use Rattle.ints.proofs.Stretches.{movedDown}
+use Rattle.store.proofs.ChangesLaws.{moved-down, down-done}
 use Rattle.store.proofs.changes.move_down.Statement.{statement}
 use Rattle.store.proofs.changes.move_down.Tie as tie
 

@@ -5,8 +5,8 @@ use lib.IntN.{pos}
 use mathlib.Core.Path.{_≡_, refl}
 use Prim.Native.Nat.{_≤_}
 use lib.ListN.{length, length-set}
-use Rattle.ints.proofs.Lists.{movedUp, up-start}
-use Rattle.store.proofs.ChangeLaws.{moved-up, up-done}
+use Rattle.ints.proofs.Stretches.{movedUp, up-start}
+use Rattle.store.proofs.ChangesLaws.{moved-up, up-done}
 use Rattle.store.proofs.changes.move_up.Statement.{statement}
 use Rattle.store.proofs.changes.move_up.Tie as tie
 

@@ -1,6 +1,6 @@
 -- `store::changes::place_dead` meets its contract: the rows are widened, and the records put in.
 -- Assumes nothing.
-use Rattle.store.proofs.StepLaws.{none-stored, none-widened}
+use Rattle.store.proofs.StepWordsLaws.{none-stored, none-widened}
 use Rattle.store.proofs.changes.place_dead.Statement.{statement}
 use Rattle.store.proofs.changes.place_dead.Tie as tie
 

@@ -5,8 +5,8 @@ use mathlib.Core.Path.{_≡_}
 use Prim.Native.Nat.{_+_, _*_, _-_, _≤_}
 use lib.ListN.{drop}
 use Rattle.records.specs.Records.{recordsOf, readRecords}
-use Rattle.store.specs.Walks.{placeOf}
-use Rattle.store.proofs.ChangeLaws.{walk-start, walk-here, walk-more, walk-end, place-tested}
+use Rattle.store.specs.Needs.{placeOf}
+use Rattle.store.proofs.ChangesLaws.{walk-start, walk-here, walk-more, walk-end, place-tested}
 use Rattle.store.proofs.changes.place_of.Statement.{statement}
 use Rattle.store.proofs.changes.place_of.Tie as tie
 

@@ -6,8 +6,8 @@ use borrow.Rule.Slice.PartMut.{same-len-mid}
 use lib.IntN.{ℤ}
 use Prim.Native.Nat.{_+_, _*_, _-_}
 use lib.ListN.{length-take, length-drop}
-use Rattle.records.proofs.PlaceLaws.{words-room, within}
-use Rattle.store.proofs.ChangeLaws.{insert-done}
+use Rattle.records.proofs.PlacesLaws.{words-room, within}
+use Rattle.store.proofs.ChangesLaws.{insert-done}
 use Rattle.store.proofs.changes.put.Statement.{statement}
 use Rattle.store.proofs.changes.put.Tie as tie
 

@@ -2,8 +2,8 @@
 -- Assumes nothing.
 use borrow.Author.Needs.{needs}
 use native.Mathlib.Omega.{arith}
-use Rattle.records.proofs.PlaceLaws.{store-room, has-words}
-use Rattle.store.proofs.ChangeLaws.{remove-found, remove-none, index-read}
+use Rattle.records.proofs.PlacesLaws.{store-room, has-words}
+use Rattle.store.proofs.ChangesLaws.{remove-found, remove-none, index-read}
 use Rattle.store.proofs.changes.remove.Statement.{statement}
 use Rattle.store.proofs.changes.remove.Tie as tie
 

@@ -6,8 +6,8 @@ use borrow.Rule.Slice.PartMut.{same-len-mid}
 use lib.IntN.{ℤ}
 use Prim.Native.Nat.{_+_, _*_, _-_}
 use lib.ListN.{length-take, length-drop}
-use Rattle.records.proofs.PlaceLaws.{words-room}
-use Rattle.store.proofs.ChangeLaws.{remove-at-done}
+use Rattle.records.proofs.PlacesLaws.{words-room}
+use Rattle.store.proofs.ChangesLaws.{remove-at-done}
 use Rattle.store.proofs.changes.remove_at.Statement.{statement}
 use Rattle.store.proofs.changes.remove_at.Tie as tie
 

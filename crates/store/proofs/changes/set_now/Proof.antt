@@ -2,8 +2,8 @@
 -- Assumes nothing.
 use borrow.Author.Needs.{needs}
 use native.Mathlib.Omega.{arith}
-use Rattle.records.proofs.PlaceLaws.{store-room}
-use Rattle.store.proofs.ChangeLaws.{now-set}
+use Rattle.records.proofs.PlacesLaws.{store-room}
+use Rattle.store.proofs.ChangesLaws.{now-set}
 use Rattle.store.proofs.changes.set_now.Statement.{statement}
 use Rattle.store.proofs.changes.set_now.Tie as tie
 

@@ -1,7 +1,7 @@
 -- `store::changes::step_records` meets its contract: the records that do not live on are taken out, and put in again.
 -- Assumes nothing.
 use borrow.Author.Needs.{needs}
-use Rattle.store.proofs.StepLaws.{step-asks, step-stored, step-widened}
+use Rattle.store.proofs.StepWordsLaws.{step-asks, step-stored, step-widened}
 use Rattle.store.proofs.changes.step_records.Statement.{statement}
 use Rattle.store.proofs.changes.step_records.Tie as tie
 

@@ -5,8 +5,8 @@ use native.Mathlib.Omega.{arith}
 use borrow.Rule.Slice.PartMut.{same-len-mid}
 use lib.IntN.{ℤ}
 use Prim.Native.Nat.{_+_, _*_, _-_}
-use Rattle.records.proofs.PlaceLaws.{store-room}
-use Rattle.store.proofs.StepLaws.{taken-out}
+use Rattle.records.proofs.PlacesLaws.{store-room}
+use Rattle.store.proofs.StepWordsLaws.{taken-out}
 use Rattle.store.proofs.changes.take_dead.Statement.{statement}
 use Rattle.store.proofs.changes.take_dead.Tie as tie
 

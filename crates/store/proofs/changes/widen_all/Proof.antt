@@ -4,7 +4,7 @@ use borrow.Author.Needs.{needs}
 use mathlib.Core.Path.{sym, _∙_}
 use native.Mathlib.Omega.{arith}
 use Prim.Native.Nat.{_-_}
-use Rattle.store.proofs.StepLaws.{Widen, widen-start, widen-in-range, widen-more, widen-end}
+use Rattle.store.proofs.StepWordsLaws.{Widen, widen-start, widen-in-range, widen-more, widen-end}
 use Rattle.store.proofs.changes.widen_all.Statement.{statement}
 use Rattle.store.proofs.changes.widen_all.Tie as tie
 

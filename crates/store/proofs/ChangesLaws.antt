@@ -18,17 +18,17 @@ use mir.Val.{hbits}
 use Rattle.ints.specs.Lists.{some}
 use Rattle.ints.specs.Whole.{eqZ}
 use Rattle.ints.proofs.Machine.{back, held}
-use Rattle.ints.proofs.Lists.{movedUp, movedDown, up-more, up-end, down-more, down-end}
+use Rattle.ints.proofs.Stretches.{movedUp, movedDown, up-more, up-end, down-more, down-end}
 use Rattle.grid.specs.Units.{capacity}
 use Rattle.records.specs.Records.{recordWords, recordFrom, nowOf, heldOf, readRecords, recordsOf, wordsOf, wordsOfAll, header, storeOf}
 use Rattle.records.specs.Order.{precedes, hasId}
 use Rattle.records.specs.Soundness.{IsStore}
 use Rattle.store.specs.Changes.{inserted, removed}
 use Rattle.records.specs.Places.{HasWords, firstOf}
-use Rattle.store.specs.Walks.{placeOf, indexOf, hasThat}
-use Rattle.records.proofs.RecordLaws.{words-length, held-records}
+use Rattle.store.specs.Needs.{placeOf, indexOf, hasThat}
+use Rattle.records.proofs.RecordsLaws.{words-length, held-records}
 use Rattle.records.specs.declared.Record.{Record}
-use Rattle.records.proofs.PlaceLaws.{record-at, first-within, within}
+use Rattle.records.proofs.PlacesLaws.{record-at, first-within, within}
 
 -- ---- a walk over the records, one by one
 

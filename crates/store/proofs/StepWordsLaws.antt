@@ -10,25 +10,25 @@ use lib.ListN.{length, set, take, drop, replicate, length-append, length-take, l
 use lib.Seq.{drop-drop, take-at, drop-at, take-add, take-all, length-take-le}
 use Rattle.ints.specs.Lists.{passing, every}
 use Rattle.ints.proofs.Truth.{and-true, and-left, and-right}
-use Rattle.ints.proofs.Members.{map-append, passing-append}
+use Rattle.ints.proofs.Lists.{map-append, passing-append}
 use Rattle.grid.specs.Units.{capacity}
 use Rattle.rows.specs.Phases.{phaseOf, isLive}
 use Rattle.rows.specs.Table.{tableWords, withRow}
 use Rattle.records.specs.Records.{recordWords, storeWords, recordFrom, nowOf, heldOf, readRecords, recordsOf, wordsOf, wordsOfAll, header, storeOf}
-use Rattle.records.specs.Order.{slotOfKey, numberOfKey, phaseOfKey}
+use Rattle.records.specs.Order.{phaseOfKey}
 use Rattle.records.specs.Soundness.{isRanged, allRanged, IsStore}
 use Rattle.store.specs.Changes.{insertedAll, placedIn, stays, moves, replaced, steppedRecords, widenedBy, widenedByAll}
 use Rattle.records.specs.Places.{HasWords}
-use Rattle.store.specs.Walks.{IsStep, KeptFirst, Taken, PlaceAsked}
+use Rattle.store.specs.Needs.{IsStep, KeptFirst, Taken, PlaceAsked}
 use Rattle.records.specs.declared.Record.{Record}
 use Rattle.store.specs.declared.changes.Step.{Step}
-use Rattle.records.proofs.RecordLaws.{words-length, read-back, now-of-store, records-of-store, read-length, held-records, written-read}
-use Rattle.records.proofs.SoundLawsRanges.{last-phase}
-use Rattle.records.proofs.PlaceLaws.{record-at, store-room}
-use Rattle.store.proofs.ChangeLaws.{left-at, words-append}
-use Rattle.store.proofs.MergeLaws.{no-records}
+use Rattle.records.proofs.RecordsLaws.{words-length, read-back, now-of-store, records-of-store, read-length, held-records, written-read}
+use Rattle.records.proofs.RangeLaws.{last-phase}
+use Rattle.records.proofs.PlacesLaws.{record-at, store-room}
+use Rattle.store.proofs.ChangesLaws.{left-at, words-append}
+use Rattle.store.proofs.SortingLaws.{no-records}
 use Rattle.store.proofs.SteppedLaws.{placed-ranged, halves-few}
-use Rattle.records.proofs.PlaceLaws.{read-later, rest-at}
+use Rattle.records.proofs.PlacesLaws.{read-later, rest-at}
 
 -- ---- the phases of a step are those of a time
 

@@ -18,7 +18,7 @@ use Rattle.records.specs.Records.{recordWords, recordFrom, readRecords}
 use Rattle.records.specs.Order.{precedes, isSorted}
 use Rattle.records.specs.Soundness.{allZero, isRanged, allRanged}
 use Rattle.records.specs.declared.Record.{Record}
-use Rattle.records.proofs.PlaceLaws.{record-at}
+use Rattle.records.proofs.PlacesLaws.{record-at}
 
 -- ---- words
 

@@ -5,11 +5,11 @@ use mathlib.Core.List.{List}
 use Prim.Native.Nat.{ℕ, _+_, _*_}
 use lib.IntN.{pos}
 use lib.ListN.{length}
-use Rattle.ints.proofs.Members.{passing}
+use Rattle.ints.proofs.Lists.{passing}
 use Rattle.ints.proofs.Marks.{counted}
 use Rattle.grid.specs.Units.{cells}
 use Rattle.rows.specs.Phases.{phaseOf, livePhases, slotOf}
-use Rattle.rows.proofs.PhaseLaws.{listed-live}
+use Rattle.rows.proofs.PhasesLaws.{listed-live}
 use Rattle.methods.specs.Aims.{aimIn}
 use Rattle.methods.specs.Slots.{rowsOfSlot}
 use Rattle.methods.proofs.Methods.{choice-on, choice-once}
@@ -19,12 +19,12 @@ use Rattle.records.specs.Words.{Words, timeIn, recordsIn}
 use Rattle.ledger.specs.declared.Ask.{Ask}
 use Rattle.reading.specs.Reading.{cellsIn, hasKey, usefulIn}
 use Rattle.records.specs.declared.Record.{Record}
-use Rattle.records.proofs.SoundLaws.{Sound}
+use Rattle.records.proofs.SoundnessLaws.{Sound}
 use Rattle.reading.proofs.ListedLaws.{cells-are, useful-are}
 use Rattle.ledger.specs.Machine.{summed}
-use Rattle.ledger.proofs.SumLaws.{summed-same}
+use Rattle.ledger.proofs.SummedLaws.{summed-same}
 use Rattle.asking.specs.Asking.{choiceOf, marksIn, listedOf, cellsCounted, usefulCounted}
-use Rattle.asking.proofs.AskLaws.{FitAsk, isInsideIn, listed-of-phase}
+use Rattle.asking.proofs.PhaseReadingLaws.{FitAsk, isInsideIn, listed-of-phase}
 
 module _ (w : Words) (ask : Ask) where
   pub cells-counted-are : cellsCounted w ask ≡ summed (λ p. length (choiceOf w ask p .cells)) (livePhases (phaseOf (timeIn w)))

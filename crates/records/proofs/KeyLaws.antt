@@ -22,7 +22,7 @@ use Rattle.grid.specs.declared.Report.{Report}
 use Rattle.grid.proofs.Places.{cell-on}
 use Rattle.grid.proofs.Curve.{number-below}
 use Rattle.rows.specs.Phases.{phaseOf, referenceTime, isLive, livePhases, slotOf, slots}
-use Rattle.rows.proofs.PhaseLaws.{live-range, range-live, slot-on}
+use Rattle.rows.proofs.PhasesLaws.{live-range, range-live, slot-on}
 use Rattle.records.specs.Order.{keyIn, slotOfKey, numberOfKey, phaseWithSlot, phaseOfKey}
 use Rattle.records.specs.Soundness.{keyIsRight}
 use Rattle.records.specs.declared.Record.{Record}

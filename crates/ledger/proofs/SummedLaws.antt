@@ -10,10 +10,10 @@ use native.Mathlib.Omega.{arith}
 use lib.Dec.{eqb}
 use lib.ListN.{length}
 use borrow.Author.Tests.{eq-eqb, ne-eqb}
-use Rattle.ints.proofs.Members.{passing}
+use Rattle.ints.proofs.Lists.{passing}
 use Rattle.ints.proofs.Marks.{bit}
 use Rattle.rows.specs.Phases.{isLive, livePhases}
-use Rattle.rows.proofs.PhaseLaws.{live-range}
+use Rattle.rows.proofs.PhasesLaws.{live-range}
 use Rattle.ledger.specs.Machine.{summed}
 
 pub summed-same : (f g : ℕ → ℕ) (ps : List ℕ) → ((p : ℕ) → List·Memᴰ p ps → f p ≡ g p) → summed f ps ≡ summed g ps

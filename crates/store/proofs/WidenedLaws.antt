@@ -5,14 +5,14 @@ use mathlib.Core.Path.{_≡_, refl, sym, ap, _∙_}
 use mathlib.Core.Bool.{Bool, true, false, cond, _&&_}
 use mathlib.Core.List.{List, [], _∷_, map, List·Memᴰ, List·Memᴰ·head, List·Memᴰ·tail}
 use mathlib.Core.Logic.{_⊎_, inl, inr, _≢_}
-use Prim.Native.Nat.{ℕ, _≤_, _<_}
+use Prim.Native.Nat.{ℕ, _<_}
 use native.Mathlib.Omega.{arith}
 use lib.Dec.{eqb}
-use lib.IntN.{ℤ, natAbs}
+use lib.IntN.{ℤ}
 use lib.ListN.{length}
 use borrow.Author.Tests.{eqb-true, eqb-false, ne-eqb}
 use Rattle.ints.specs.Lists.{passing}
-use Rattle.ints.proofs.Members.{map-passing}
+use Rattle.ints.proofs.Lists.{map-passing}
 use Rattle.ints.proofs.Truth.{and-left, and-right}
 use Rattle.grid.specs.Units.{cells}
 use Rattle.rows.specs.Phases.{slots, slotOf}
@@ -24,7 +24,7 @@ use Rattle.rows.proofs.TableLaws.{row-written, row-other, length-with-row}
 use Rattle.records.specs.Order.{keyIn, slotOfKey, numberOfKey, precedes}
 use Rattle.store.specs.Changes.{inserted, placedIn, replaced, widenedBy, widenedByAll}
 use Rattle.records.specs.declared.Record.{Record}
-use Rattle.records.proofs.SoundLawsKeys.{slot-of-key-in}
+use Rattle.records.proofs.KeyLaws.{slot-of-key-in}
 
 -- the row of a record's speeds alone
 abbrev pub ownRow : Record → Row

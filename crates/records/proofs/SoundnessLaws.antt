@@ -3,8 +3,7 @@
 -- Assumes nothing.
 use mathlib.Core.Path.{_≡_, refl, sym, ap, ap₂, _∙_}
 use mathlib.Core.Bool.{Bool, true, _&&_}
-use mathlib.Core.List.{List, [], _∷_, _++_, List·Memᴰ, List·Memᴰ·cases-cons, List·Memᴰ·not-nil}
-use mathlib.Core.Logic.{⊎-elim}
+use mathlib.Core.List.{List, [], _∷_, _++_, List·Memᴰ}
 use Prim.Native.Nat.{ℕ, zero, suc, _+_, _-_, _*_, _≤_}
 use native.Mathlib.Omega.{arith}
 use lib.Dec.{eqb}
@@ -13,7 +12,7 @@ use lib.ListN.{length, getD, drop, take, replicate, length-drop, length-take, ta
 use lib.Seq.{drop-cons, drop-drop, drop-at, drop-append-add}
 use borrow.Author.Tests.{eqb-true, eq-eqb}
 use Rattle.ints.specs.Lists.{every}
-use Rattle.ints.proofs.Members.{every-each, each-every}
+use Rattle.ints.proofs.Lists.{every-each, each-every}
 use Rattle.ints.specs.Whole.{eqZ, between}
 use Rattle.ints.proofs.Parts.{equal-parts}
 use Rattle.ints.proofs.Truth.{and-true, and-left, and-right}
@@ -27,9 +26,9 @@ use Rattle.records.specs.Records.{recordWords, storeWords, nowOf, heldOf
 use Rattle.records.specs.Order.{slotOfKey, numberOfKey, isSorted}
 use Rattle.records.specs.Soundness.{allZero, keyIsRight, isSoundRecord, allSound, idsDistinct, isSoundHeader, isSoundStore, inOwnRow, speedsInRows, isSound, isRanged, allRanged, IsStore}
 use Rattle.records.specs.declared.Record.{Record}
-use Rattle.records.proofs.RecordLaws.{words-length, now-of-store, records-of-store, store-length, held-records, written-read}
-use Rattle.records.proofs.SoundLawsRanges.{From, between-from, from-between, earlier-time, parts-ranged, slot-below, number-of-key-below}
-use Rattle.records.proofs.SoundLawsKeys.{Placed, right-placed}
+use Rattle.records.proofs.RecordsLaws.{words-length, now-of-store, records-of-store, store-length, held-records, written-read}
+use Rattle.records.proofs.RangeLaws.{From, between-from, from-between, earlier-time, parts-ranged, slot-below, number-of-key-below}
+use Rattle.records.proofs.KeyLaws.{Placed, right-placed}
 
 -- ---- words that are zero
 

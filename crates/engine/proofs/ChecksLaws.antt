@@ -19,14 +19,14 @@ use Rattle.rows.specs.Table.{tableWords}
 use Rattle.records.specs.Records.{storeWords}
 use Rattle.records.specs.Order.{hasId}
 use Rattle.records.specs.Soundness.{IsStore}
-use Rattle.records.specs.Words.{Words, words, timeIn, recordsIn, areSound}
+use Rattle.records.specs.Words.{Words, timeIn, recordsIn, areSound}
 use Rattle.records.specs.declared.Record.{Record}
-use Rattle.records.proofs.SoundLaws as Sound
+use Rattle.records.proofs.SoundnessLaws as Sound
 use Rattle.store.specs.Changes.{steppedRecords}
 use Rattle.store.proofs.SteppedLaws.{has-stepped, stepped-length}
 use Rattle.words.specs.Words.{stepped}
 use Rattle.words.specs.Needs.{RightLengths, CanStep, CanPlace, CanReplace}
-use Rattle.words.proofs.StepLaws.{stepped-records, stepped-can-change}
+use Rattle.words.proofs.SteppedLaws.{stepped-records, stepped-can-change}
 use Rattle.ledger.specs.Refusals.{Check, check, unless, firstToFail, badTime, badStepTime, badAskTime, badAsk, timeOf, idOf, badNumbers, heldChecks, changeChecks, askChecks}
 use Rattle.ledger.specs.declared.Ask.{Ask}
 use Rattle.ledger.specs.declared.Change.{Change}
@@ -35,7 +35,7 @@ use Rattle.ledger.specs.declared.Refusal.{Refusal}
 use Rattle.ledger.specs.declared.Refusal.the-variants.{WrongLength, Unsound, BadTime, BadNumber, AlreadyHeld, NotHeld, Full}
 use Rattle.ledger.specs.declared.Verdict.{Verdict}
 use Rattle.ledger.specs.declared.Verdict.the-variants.{Passed, Failed}
-use Rattle.ledger.proofs.VerdictLaws.{passes, not-both, first-passed, others-passed}
+use Rattle.ledger.proofs.RefusalsLaws.{passes, not-both, first-passed, others-passed}
 use Rattle.asking.specs.Counted.{CanAsk, roomChecks}
 use Rattle.engine.specs.Index.{wrongLength, unsound, lentChecks, openChecks, checksOfChange}
 use Rattle.engine.specs.Needs.{CanMake, CanApply}

@@ -18,7 +18,7 @@ use Rattle.grid.specs.Small.{SmallReport}
 use Rattle.grid.specs.declared.Report.{Report}
 use Rattle.rows.specs.Phases.{phaseOf, referenceTime, slots}
 use Rattle.rows.specs.Row.{driftOf}
-use Rattle.rows.proofs.PhaseLaws.{phase-is}
+use Rattle.rows.proofs.PhasesLaws.{phase-is}
 use Rattle.rows.proofs.RowLaws.{DriftInRange}
 use Rattle.records.specs.Order.{slotOfKey, numberOfKey}
 use Rattle.records.specs.Soundness.{isRanged}

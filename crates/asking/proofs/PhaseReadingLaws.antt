@@ -13,7 +13,7 @@ use borrow.Author.Tests.{eqb-true, eq-eqb, not-false}
 use Rattle.ints.specs.Whole.{between, up}
 use Rattle.ints.proofs.Parts.{signed, add, sub, le-true}
 use Rattle.ints.proofs.Truth.{same-truth, and-true, and-left, and-right, or-neither}
-use Rattle.ints.proofs.Members.{passing, passing-same, every-each}
+use Rattle.ints.proofs.Lists.{passing, passing-same, every-each}
 use Rattle.grid.specs.Curve.{curveNumber}
 use Rattle.grid.specs.Reports.{isTime, isPosition, xAt, yAt, cellAtTime, isListed}
 use Rattle.grid.specs.declared.Query.{Query}
@@ -22,7 +22,7 @@ use Rattle.grid.proofs.Places.{cell-on}
 use Rattle.grid.proofs.Curve.{number-below}
 use Rattle.rows.specs.Phases.{phaseOf, referenceTime, isLive, livePhases, slotOf}
 use Rattle.rows.specs.Table.{rowAt}
-use Rattle.rows.proofs.PhaseLaws.{phase-is, live-range, same-slot, slot-on, listed-live}
+use Rattle.rows.proofs.PhasesLaws.{phase-is, live-range, same-slot, slot-on, listed-live}
 use Rattle.rows.proofs.TableLaws.{valid-row-at}
 use Rattle.methods.specs.Aims.{sliceOf, placedBy, heldBy}
 use Rattle.methods.specs.Fair.{InOrder}
@@ -36,14 +36,14 @@ use Rattle.records.specs.Words.{Words, timeIn, recordsIn}
 use Rattle.records.specs.Order.{slotOfKey, numberOfKey, phaseOfKey}
 use Rattle.records.specs.Soundness.{inOwnRow}
 use Rattle.records.specs.declared.Record.{Record}
-use Rattle.records.proofs.SoundLawsRanges.{time-from}
-use Rattle.records.proofs.SoundLawsKeys.{number-of-key-in}
-use Rattle.records.proofs.SoundLaws.{SoundRecord, all-sound-each, Sound}
+use Rattle.records.proofs.RangeLaws.{time-from}
+use Rattle.records.proofs.KeyLaws.{number-of-key-in}
+use Rattle.records.proofs.SoundnessLaws.{SoundRecord, all-sound-each, Sound}
 use Rattle.reading.specs.Reading.{inSet, isRead}
 use Rattle.reading.proofs.ListedLaws.{listed-is}
 use Rattle.ledger.specs.Refusals.{badAskTime, badAsk, isRectangle}
 use Rattle.ledger.specs.declared.Ask.{Ask}
-use Rattle.ledger.proofs.SumLaws.{summed-same, phases-summed}
+use Rattle.ledger.proofs.SummedLaws.{summed-same, phases-summed}
 use Rattle.asking.specs.Asking.{choiceOf, marksIn, listedOf, idsNeeded}
 
 -- ---- what an ask that is not declined for its numbers asks for

@@ -24,10 +24,10 @@ use Rattle.records.specs.Order.{slotOfKey, numberOfKey, isSorted, hasId}
 use Rattle.records.specs.Soundness.{allSound, idsDistinct, speedsInRows, isSound, isRanged, allRanged}
 use Rattle.records.specs.Words.{Words, words, timeIn, recordsIn, areSound}
 use Rattle.records.specs.declared.Record.{Record}
-use Rattle.records.proofs.RecordLaws.{now-of-store, records-of-store, store-of}
-use Rattle.records.proofs.SoundLaws.{parts-sound}
-use Rattle.records.proofs.SoundLawsRanges.{parts-ranged}
-use Rattle.records.proofs.SoundLawsKeys.{key-in-below}
+use Rattle.records.proofs.RecordsLaws.{now-of-store, records-of-store, store-of}
+use Rattle.records.proofs.SoundnessLaws.{parts-sound}
+use Rattle.records.proofs.RangeLaws.{parts-ranged}
+use Rattle.records.proofs.KeyLaws.{key-in-below}
 use Rattle.store.specs.Changes.{inserted, removed, placedIn}
 use Rattle.store.proofs.InsertedLaws.{inserted-length, inserted-sorted, inserted-every}
 use Rattle.store.proofs.RemovedLaws.{removed-sorted, removed-every, removed-length}

@@ -8,25 +8,25 @@ use native.Mathlib.Omega.{arith}
 use lib.IntN.{ℤ}
 use lib.ListN.{length}
 use borrow.Author.Tests.{le-ltb}
-use Rattle.ints.proofs.Members.{passing-all, passing-none}
+use Rattle.ints.proofs.Lists.{passing-all, passing-none}
 use Rattle.grid.specs.Units.{capacity}
 use Rattle.grid.specs.Reports.{isTime}
 use Rattle.rows.specs.Phases.{phaseOf, isLive, livePhases}
 use Rattle.rows.specs.Table.{tableWords, withLaterEmpty, withNewlyLiveEmpty}
 use Rattle.rows.proofs.TableLaws.{length-newly-live-empty}
-use Rattle.rows.proofs.PhaseLaws.{live-range, listed-live, phases-grow}
+use Rattle.rows.proofs.PhasesLaws.{live-range, listed-live, phases-grow}
 use Rattle.records.specs.Records.{recordsOf, storeOf}
 use Rattle.records.specs.Order.{isSorted, phaseOfKey}
 use Rattle.records.specs.Soundness.{allRanged, IsStore}
 use Rattle.store.specs.Changes.{placedIn, stays, moves, replaced, insertedAll, steppedRecords, widenedByAll}
-use Rattle.store.specs.Walks.{IsStep}
+use Rattle.store.specs.Needs.{IsStep}
 use Rattle.store.specs.declared.changes.Step.{Step}
 use Rattle.records.specs.declared.Record.{Record}
-use Rattle.records.proofs.RecordLaws.{now-of-store, records-of-store, store-of}
+use Rattle.records.proofs.RecordsLaws.{now-of-store, records-of-store, store-of}
 use Rattle.store.proofs.SteppedLaws.{stepped-few, stepped-ranged, stepped-sorted}
-use Rattle.store.proofs.SpeedLaws.{with-speeds-length}
-use Rattle.records.proofs.SoundLaws as Sound
-use Rattle.records.proofs.SoundLawsKeys.{right-placed}
+use Rattle.store.proofs.WidenedLaws.{with-speeds-length}
+use Rattle.records.proofs.SoundnessLaws as Sound
+use Rattle.records.proofs.KeyLaws.{right-placed}
 use Rattle.records.specs.Words.{Words, words, timeIn, recordsIn}
 use Rattle.words.specs.Words.{tableStepped, stepped}
 use Rattle.words.specs.Needs.{CanStep, CanMove, Moved, CanChange}
