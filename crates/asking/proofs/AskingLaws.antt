@@ -11,11 +11,11 @@ use lib.ListN.{length, drop, length-replicate}
 use Rattle.ints.specs.Whole.{up}
 use Rattle.ints.proofs.Lists.{passing}
 use Rattle.ints.proofs.Parts.{abs, one-part}
-use Rattle.grid.specs.Units.{cells}
+use Rattle.grid.specs.Units.{cells, idMarks}
 use Rattle.grid.specs.Reports.{isListed}
 use Rattle.grid.specs.declared.Report.{Report}
 use Rattle.rows.specs.Row.{emptyRow, isEmpty, sameRow}
-use Rattle.rows.specs.Phases.{phaseOf, isLive, slotOf, livePhases}
+use Rattle.rows.specs.Phases.{phaseOf, isLive, slotOf, livePhases, lastPhase}
 use Rattle.rows.specs.declared.Row.{Row}
 use Rattle.rows.proofs.PhasesLaws.{slot-on, live-range}
 use Rattle.methods.specs.Aims.{Aim, aimIn}
@@ -61,7 +61,7 @@ module _ (w : Words) (ask : Ask) (can : CanAsk w ask) where
   pub ask-store : IsStore (w .store)
   ask-store = Sound.is-store (w .store) (parts .store)
 
-  small-phase : (p : ℕ) → isLive (phaseOf (timeIn w)) p ≡ true → p ≤ 277777
+  small-phase : (p : ℕ) → isLive (phaseOf (timeIn w)) p ≡ true → p ≤ lastPhase
   small-phase p live = let l = last-phase (timeIn w) (parts .store .time) in omega (arith, live-range (phaseOf (timeIn w)) p live)
 
   pub can-choose : (p : ℕ) → isLive (phaseOf (timeIn w)) p ≡ true → CanChooseIn (w .table) ask p
@@ -78,7 +78,7 @@ module _ (w : Words) (ask : Ask) (can : CanAsk w ask) where
       let f = between-from 0 999999999 asked (fit .is-time) in
       omega (arith, abs asked, one-part asked)
 
-  pub can-read : (ids : List ℕ) → length ids ≡ 65536 → CanReadIn (w .store) (ask .query) ids
+  pub can-read : (ids : List ℕ) → length ids ≡ idMarks → CanReadIn (w .store) (ask .query) ids
   can-read ids h = record { is-store = ask-store; small = record { small-time = small-time }; all-marks = h }
 
 -- ---- bounds
@@ -139,7 +139,7 @@ module _ (w : Words) (ask : Ask) (p : ℕ) (store : IsStore (w .store)) where
   abbrev listedBy : List ℕ → List Record
   listedBy marks = listedIn marks (slotOf p) (isListed (ask .query)) (recordsIn w)
 
-  small-reading : (marks : List ℕ) (r : Reading) → ReadingOf marks (slotOf p) (isListed (ask .query)) (recordsIn w) r → SmallReading 65536 r
+  small-reading : (marks : List ℕ) (r : Reading) → ReadingOf marks (slotOf p) (isListed (ask .query)) (recordsIn w) r → SmallReading idMarks r
   small-reading marks r read = record {
     few-listed = let h = few-listed marks (slotOf p) (isListed (ask .query)) (recordsIn w) in let k = store .few in let e = read .listed-are in omega arith;
     few-cells = let h = cells-few marks 0 cells in let e = read .cells-are in omega arith;
@@ -169,10 +169,10 @@ module _ (w : Words) (ask : Ask) (p : ℕ) (store : IsStore (w .store)) where
 
 -- ---- and over the live phases, which are one, two or three
 
-pub sum-small : (a b r : Counts) → SmallCounts 65536 a → SmallCounts 65536 b → CountedTogether a b r → SmallCounts 1000000 r
+pub sum-small : (a b r : Counts) → SmallCounts idMarks a → SmallCounts idMarks b → CountedTogether a b r → SmallCounts 1000000 r
 sum-small a b r x y e = omega arith
 
-pub small-room : (a : Counts) → SmallCounts 65536 a → SmallCounts 1000000 a
+pub small-room : (a : Counts) → SmallCounts idMarks a → SmallCounts 1000000 a
 small-room a x = omega arith
 
 module _ (w : Words) (ask : Ask) where
@@ -248,9 +248,9 @@ pub gives-list : (o : AskOutcome) (a : Answer) (list : List ℕ) → a ≡ o .an
 gives-list o a list e x =
     record { number-is = ap numberOf e; value-is = ap valueOf e; counts-are = ap countsOf e; answer-is = e; list-is = x }
 
-pub no-ids-long : length noIds ≡ 65536
+pub no-ids-long : length noIds ≡ idMarks
 unfolding noIds
-no-ids-long = length-replicate {A = ℕ} 65536 0
+no-ids-long = length-replicate {A = ℕ} idMarks 0
 
 module _ (w : Words) (ask : Ask) (can : CanAsk w ask) (list ids : List ℕ) (c : Counts) (o : CountedOver w ask (phasesNow w ask) noIds ids c) where
   needed : c .read .listed ≡ idsNeeded w ask

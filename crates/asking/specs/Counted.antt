@@ -11,7 +11,7 @@ use lib.ListN.{length, replicate}
 use Rattle.ints.specs.Whole.{between}
 use Rattle.grid.specs.Reports.{isListed}
 use Rattle.grid.specs.Small.{SmallQuery}
-use Rattle.grid.specs.Units.{cells, lastId}
+use Rattle.grid.specs.Units.{cells, lastId, idMarks}
 use Rattle.grid.specs.declared.Query.{Query}
 use Rattle.rows.specs.Phases.{phaseOf, isLive, slotOf}
 use Rattle.methods.specs.Aims.{sliceOf}
@@ -38,12 +38,12 @@ pub record CanAsk (w : Words) (ask : Ask) : Type 0 where
 -- the same with marks for all ids, and in one of its live phases
 pub record CanAskAll (w : Words) (ask : Ask) (found : List ℕ) : Type 0 where
   pub can-ask : CanAsk w ask
-  pub all-marks : length found ≡ 65536
+  pub all-marks : length found ≡ idMarks
 
 pub record CanAskIn (w : Words) (ask : Ask) (p : ℕ) (found : List ℕ) : Type 0 where
   pub can-ask : CanAsk w ask
   pub live : isLive (phaseOf (timeIn w)) p ≡ true
-  pub all-marks : length found ≡ 65536
+  pub all-marks : length found ≡ idMarks
 
 -- no id marked
 unfoldable pub noIds : List ℕ
@@ -72,7 +72,7 @@ pub record CanChooseIn (t : List ℤ) (ask : Ask) (p : ℕ) : Type 0 where
 pub record CanReadIn (s : List ℤ) (query : Query) (found : List ℕ) : Type 0 where
   pub is-store : IsStore s
   pub small : SmallQuery query
-  pub all-marks : length found ≡ 65536
+  pub all-marks : length found ≡ idMarks
 
 -- what reading a set of cells of phase p gives back, and the marks of the ids found before and after
 pub record ReadIn (marks : List ℕ) (p : ℕ) (query : Query) (rs : List Record) (before after : List ℕ) (r : Reading) : Type 0 where
@@ -97,7 +97,7 @@ module _ (w : Words) (ask : Ask) where
     pub useful-are : c .read .useful ≡ usefulIn (slotOf p) (listedOf w ask p) 0 cells
     pub rounds-are : c .rounds ≡ choiceOf w ask p .rounds
     pub found-are : after ≡ withIds before (listedOf w ask p)
-    pub small : SmallCounts 65536 c
+    pub small : SmallCounts idMarks c
 
   -- in each of some phases, summed
   pub record CountedOver (ps : List ℕ) (before after : List ℕ) (c : Counts) : Type 0 where

@@ -68,7 +68,7 @@ fn number_of(ask: Ask) -> usize
 }
 
 // Cells chosen in a live phase by the rows of its slot, as marks, and the rounds of the choice.
-fn choose_in(table: &[i16], p: usize, ask: Ask, marks: &mut [u8; 1024]) -> usize
+fn choose_in(table: &[i16], p: usize, ask: Ask, marks: &mut [u8; grid::CELLS]) -> usize
     requires { ⌜ CanChooseIn (now table) ask p ⌝ }
     ensures { λ r. ⌜ ChosenBy (up (ask .method)) (now (table .entry)) (slotOf p) (aimIn p (ask .query)) (now (marks .exit)) r ⌝ }
 {
@@ -79,7 +79,13 @@ fn choose_in(table: &[i16], p: usize, ask: Ask, marks: &mut [u8; 1024]) -> usize
 }
 
 // Any set of cells of a live phase read.
-fn read_in(store: &[i32], p: usize, query: Query, marks: &[u8; 1024], found: &mut [u8]) -> Reading
+fn read_in(
+    store: &[i32],
+    p: usize,
+    query: Query,
+    marks: &[u8; grid::CELLS],
+    found: &mut [u8],
+) -> Reading
     requires { ⌜ CanReadIn (now store) query (now found) ⌝ }
     ensures { λ r. ⌜ ReadIn (now (marks .entry)) p query (recordsOf (now (store .entry))) (now (found .entry)) (now (found .exit)) r ⌝ }
 {
@@ -91,7 +97,7 @@ fn ask_in(store: &[i32], table: &[i16], p: usize, ask: Ask, found: &mut [u8]) ->
     requires { ⌜ CanAskIn (words (now store) (now table)) ask p (now found) ⌝ }
     ensures { λ r. ⌜ CountedIn (words (now (store .entry)) (now (table .entry))) ask p (now (found .entry)) (now (found .exit)) r ⌝ }
 {
-    let mut marks = [0u8; 1024];
+    let mut marks = [0u8; grid::CELLS];
     let rounds = choose_in(table, p, ask, &mut marks);
     let read = read_in(store, p, ask.query, &marks, found);
     Counts { read, rounds }
@@ -133,6 +139,6 @@ pub fn ask_sound(store: &[i32], table: &[i16], list: &mut [u16], ask: Ask) -> An
     requires { ⌜ CanAsk (words (now store) (now table)) ask ⌝ }
     ensures { λ r. ⌜ GivesList (settledByRoom (words (now (store .entry)) (now (table .entry))) ask (now (list .entry))) r (now (list .exit)) ⌝ }
 {
-    let mut found = [0u8; 65536];
+    let mut found = [0u8; grid::ID_MARKS];
     ask_with(store, table, list, ask, &mut found)
 }

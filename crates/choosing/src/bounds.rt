@@ -11,7 +11,7 @@ use methods::Block;
 use rows::Row;
 
 // The row of a cell. `numbers` is the grid's table of curve numbers, which a pass holds from its first cell to its last.
-pub fn row_of_cell(numbers: &[u16; 1024], table: &[i16], slot: usize, c: Cell) -> Row
+pub fn row_of_cell(numbers: &[u16; grid::CELLS], table: &[i16], slot: usize, c: Cell) -> Row
     requires { ⌜ CanReadCell (now numbers) (now table) slot c ⌝ }
     ensures { λ r. ⌜ r ≡ rowsOfSlot (now (table .entry)) slot c ⌝ }
 {
@@ -19,7 +19,7 @@ pub fn row_of_cell(numbers: &[u16; 1024], table: &[i16], slot: usize, c: Cell) -
 }
 
 // The bounds of a block's cells of one row.
-fn row_bounds(numbers: &[u16; 1024], table: &[i16], slot: usize, b: Block, row: usize) -> Row
+fn row_bounds(numbers: &[u16; grid::CELLS], table: &[i16], slot: usize, b: Block, row: usize) -> Row
     requires { ⌜ CanBoundRow (now numbers) (now table) slot b row ⌝ }
     ensures { λ r. ⌜ r ≡ boundsOf (map (rowsOfSlot (now (table .entry)) slot) (cellsOfRow row (b .«first_column») (columnsOf b))) ⌝ }
 {

@@ -28,7 +28,7 @@ pub fn clear(marks: &mut [u8])
 }
 
 // Marks a cell. Here and below `numbers` is the grid's table of curve numbers, which a pass holds from its first cell to its last.
-fn mark_cell(numbers: &[u16; 1024], c: Cell, marks: &mut [u8])
+fn mark_cell(numbers: &[u16; grid::CELLS], c: Cell, marks: &mut [u8])
     requires { ⌜ CanMarkCell (now numbers) c (now marks) ⌝ }
     ensures { λ u. ⌜ now (marks .exit) ≡ withCells (now (marks .entry)) (c ∷ []) ⌝ }
 {
@@ -37,7 +37,7 @@ fn mark_cell(numbers: &[u16; 1024], c: Cell, marks: &mut [u8])
 }
 
 // Marks a block's cells of one row.
-fn mark_row(numbers: &[u16; 1024], b: Block, row: usize, marks: &mut [u8])
+fn mark_row(numbers: &[u16; grid::CELLS], b: Block, row: usize, marks: &mut [u8])
     requires { ⌜ CanMarkRow (now numbers) b row (now marks) ⌝ }
     ensures { λ u. ⌜ Marked (now (marks .entry)) (cellsOfRow row (b .«first_column») (columnsOf b)) (now (marks .exit)) ⌝ }
 {
@@ -69,7 +69,13 @@ pub fn mark_block(b: Block, marks: &mut [u8])
 }
 
 // Whether a cell's row is nonempty and the cell, moved by the row's speeds, meets the rectangle.
-pub fn is_reached(numbers: &[u16; 1024], table: &[i16], slot: usize, c: Cell, slice: Slice) -> bool
+pub fn is_reached(
+    numbers: &[u16; grid::CELLS],
+    table: &[i16],
+    slot: usize,
+    c: Cell,
+    slice: Slice,
+) -> bool
     requires { ⌜ CanTest (now numbers) (now table) slot slice c ⌝ }
     ensures { λ r. ⌜ r ≡ isReached (rowsOfSlot (now (table .entry)) slot) (sliceAim slice) c ⌝ }
 {
@@ -82,7 +88,7 @@ pub fn is_reached(numbers: &[u16; 1024], table: &[i16], slot: usize, c: Cell, sl
 
 // Marks a cell if it is reached.
 fn mark_if_reached(
-    numbers: &[u16; 1024],
+    numbers: &[u16; grid::CELLS],
     table: &[i16],
     slot: usize,
     c: Cell,
@@ -100,7 +106,7 @@ fn mark_if_reached(
 
 // Marks those of a block's cells of one row that are reached.
 fn mark_reached_in_row(
-    numbers: &[u16; 1024],
+    numbers: &[u16; grid::CELLS],
     table: &[i16],
     slot: usize,
     b: Block,

@@ -1,7 +1,7 @@
 -- The numbers of document 01, "Units and the places on the grid", each named once. Positions are centimetres, speeds centimetres per
 -- second, times seconds.
 -- Assumes nothing.
-use Prim.Native.Nat.{ℕ}
+use Prim.Native.Nat.{ℕ, suc, _-_, _*_}
 
 -- columns on the grid, and rows
 abbrev pub side : ℕ
@@ -13,7 +13,7 @@ order = 5
 
 -- cells on the grid
 abbrev pub cells : ℕ
-cells = 1024
+cells = side * side
 
 -- the width and the height of a cell, in centimetres
 abbrev pub cellSize : ℕ
@@ -21,7 +21,7 @@ cellSize = 262144
 
 -- the greatest position of a report, in centimetres: the last one of the last cell
 abbrev pub lastPosition : ℕ
-lastPosition = 8388607
+lastPosition = side * cellSize - 1
 
 -- the greatest size of a speed, in centimetres per second
 abbrev pub speedLimit : ℕ
@@ -41,6 +41,10 @@ askAfter = 7200
 -- the last id
 abbrev pub lastId : ℕ
 lastId = 65535
+
+-- marks by id, one for each from 0 on
+abbrev pub idMarks : ℕ
+idMarks = suc lastId
 
 -- the most floats held
 abbrev pub capacity : ℕ

@@ -31,6 +31,9 @@ pub const LAST_POSITION: i32 = (SIDE * CELL_SIZE - 1) as i32;
 // The last id, and the last time, in seconds.
 pub const LAST_ID: i32 = 65535;
 
+// Marks by id, one for each from 0 on.
+pub const ID_MARKS: usize = (LAST_ID + 1) as usize;
+
 pub const LAST_TIME: i32 = 999999999;
 
 pub struct Cell {
@@ -106,14 +109,14 @@ fn wide(n: u16) -> usize
 }
 
 // The table of curve numbers, held by a pass over many cells: an index into a constant array writes the whole array out first.
-pub fn curve_numbers() -> [u16; 1024]
+pub fn curve_numbers() -> [u16; CELLS]
     ensures { λ r. ⌜ IsCurve r ⌝ }
 {
     CURVE
 }
 
 // The curve number of a cell, by that table.
-pub fn number_in(numbers: &[u16; 1024], c: Cell) -> usize
+pub fn number_in(numbers: &[u16; CELLS], c: Cell) -> usize
     requires { ⌜ (IsCurve (now numbers)) × (OnGrid c) ⌝ }
     ensures { λ r. ⌜ r ≡ curveNumber c ⌝ }
 {

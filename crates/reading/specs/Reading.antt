@@ -10,7 +10,7 @@ use lib.IntN.{ℤ, pos}
 use lib.ListN.{length, getD, set}
 use Rattle.ints.specs.Whole.{up, eqZ, between}
 use Rattle.ints.specs.Lists.{passing, some}
-use Rattle.grid.specs.Units.{cells, lastId}
+use Rattle.grid.specs.Units.{cells, lastId, idMarks}
 use Rattle.grid.specs.Small.{SmallQuery}
 use Rattle.grid.specs.declared.Query.{Query}
 use Rattle.grid.specs.declared.Report.{Report}
@@ -60,7 +60,7 @@ pub record CanReadCells (s : List ℤ) (slot : ℕ) (marks : List ℕ) (query : 
   pub store : IsStore s
   pub one-of-three : slot < 3
   pub one-each : length marks ≡ cells
-  pub all-ids : length found ≡ 65536
+  pub all-ids : length found ≡ idMarks
   pub small : SmallQuery query
 
 -- what reading gives back: floats listed, cells read, useful cells

@@ -13,6 +13,7 @@ use lib.IntN.{ℤ}
 use lib.ListN.{length, getD, set, replicate}
 use lib.Seq.{getD-set-same, getD-set-other}
 use borrow.Author.Tests.{eq-eqb, ne-eqb}
+use Rattle.grid.specs.Units.{idMarks}
 use Rattle.ints.specs.Lists.{some, every}
 use Rattle.ints.specs.Whole.{up, down, eqZ}
 use Rattle.ints.proofs.Parts.{equal-parts}
@@ -97,7 +98,7 @@ module _ (n i : ℕ) (w : List ℤ) (marks : List ℕ) (e : idsDistinct (readRec
   pub seen-once :
       i < n
       → getD marks (up (recordFrom w (recordWords * i) .report .id)) 0 ≡ 0
-      → length marks ≡ 65536
+      → length marks ≡ idMarks
       → allRanged (left n i w) ≡ true
       → idsDistinct (readRecords n w) ≡ stillDistinct (set marks (up (recordFrom w (recordWords * i) .report .id)) 1) (left n (i + 1) w)
   seen-once h t long ranged =

@@ -23,7 +23,7 @@ use Rattle.grid.proofs.Places.{cell-on}
 use Rattle.grid.proofs.Curve.{number-below}
 use Rattle.rows.specs.Phases.{phaseOf, referenceTime, isLive, livePhases, slotOf, slots}
 use Rattle.rows.proofs.PhasesLaws.{live-range, range-live, slot-on}
-use Rattle.records.specs.Order.{keyIn, slotOfKey, numberOfKey, phaseWithSlot, phaseOfKey}
+use Rattle.records.specs.Order.{keyIn, slotOfKey, numberOfKey, phaseWithSlot, phaseOfKey, lastKey}
 use Rattle.records.specs.Soundness.{keyIsRight}
 use Rattle.records.specs.declared.Record.{Record}
 
@@ -41,12 +41,12 @@ unfolding keyIn
 number-of-key-in p r = omega (arith, cell-number-below r (referenceTime p))
 
 -- a key of the three slots, in ℕ
-pub key-in-below : (p : ℕ) (r : Report) → between (pos 0) (pos 3071) (keyIn p r) ≡ true
+pub key-in-below : (p : ℕ) (r : Report) → between (pos 0) (pos lastKey) (keyIn p r) ≡ true
 unfolding keyIn
 key-in-below p r =
     let n = slotOf p * cells + curveNumber (cellAtTime r (referenceTime p)) in
-    let h : n ≤ 3071 = omega (arith, cell-number-below r (referenceTime p), slot-on p) in
-    and-true (leZ (pos 0) (pos n)) (leZ (pos n) (pos 3071)) (omega (arith, signed)) (omega (arith, signed))
+    let h : n ≤ lastKey = omega (arith, cell-number-below r (referenceTime p), slot-on p) in
+    and-true (leZ (pos 0) (pos n)) (leZ (pos n) (pos lastKey)) (omega (arith, signed)) (omega (arith, signed))
 
 -- ---- the live phase with a slot
 
@@ -118,7 +118,7 @@ pub record Placed (now : ℤ) (r : Record) : Type 0 where
   pub not-before : phaseOf (r .report .t) ≤ phaseOfKey (phaseOf now) (r .key)
   pub live : isLive (phaseOf now) (phaseOfKey (phaseOf now) (r .key)) ≡ true
   pub slot-is : slotOfKey (r .key) ≡ slotOf (phaseOfKey (phaseOf now) (r .key))
-  pub in-slots : between (pos 0) (pos 3071) (r .key) ≡ true
+  pub in-slots : between (pos 0) (pos lastKey) (r .key) ≡ true
 
 pub right-placed : (now : ℤ) (r : Record) → keyIsRight now r ≡ true → Placed now r
 unfolding keyIsRight

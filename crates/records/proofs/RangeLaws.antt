@@ -16,11 +16,11 @@ use Rattle.grid.specs.Units.{lastTime, cells}
 use Rattle.grid.specs.Reports.{isTime, isId, isPosition, isSpeed, inRange}
 use Rattle.grid.specs.Small.{SmallReport}
 use Rattle.grid.specs.declared.Report.{Report}
-use Rattle.rows.specs.Phases.{phaseOf, referenceTime, slots}
+use Rattle.rows.specs.Phases.{phaseOf, referenceTime, slots, lastPhase}
 use Rattle.rows.specs.Row.{driftOf}
 use Rattle.rows.proofs.PhasesLaws.{phase-is}
 use Rattle.rows.proofs.RowLaws.{DriftInRange}
-use Rattle.records.specs.Order.{slotOfKey, numberOfKey}
+use Rattle.records.specs.Order.{slotOfKey, numberOfKey, lastKey}
 use Rattle.records.specs.Soundness.{isRanged}
 use Rattle.records.specs.declared.Record.{Record}
 
@@ -86,7 +86,7 @@ drift-in-range r h =
 pub time-from : (t : ℤ) → isTime t ≡ true → From 0 lastTime t
 time-from t h = between-from 0 lastTime t h
 
-pub last-phase : (t : ℤ) → isTime t ≡ true → phaseOf t ≤ 277777
+pub last-phase : (t : ℤ) → isTime t ≡ true → phaseOf t ≤ lastPhase
 last-phase t h = let f = time-from t h in omega (arith, phase-is t)
 
 -- a time at most now is a time
@@ -98,7 +98,7 @@ earlier-time time t h k =
     let o = one-part t in
     from-between 0 lastTime t (record { least = omega arith; most = omega arith; whole = omega arith })
 
-pub small-report : (p : ℕ) (r : Report) → p ≤ 277777 → inRange r ≡ true → isTime (r .t) ≡ true → SmallReport r (referenceTime p)
+pub small-report : (p : ℕ) (r : Report) → p ≤ lastPhase → inRange r ≡ true → isTime (r .t) ≡ true → SmallReport r (referenceTime p)
 unfolding referenceTime
 small-report p r h k g =
     let a = ranges r k in
@@ -124,16 +124,16 @@ small-report p r h k g =
 pub record InRanges (r : Record) : Type 0 where
   pub report : inRange (r .report) ≡ true
   pub time : isTime (r .report .t) ≡ true
-  pub key : between (pos 0) (pos 3071) (r .key) ≡ true
+  pub key : between (pos 0) (pos lastKey) (r .key) ≡ true
 
 pub ranged-parts : (r : Record) → isRanged r ≡ true → InRanges r
 unfolding isRanged
 ranged-parts r h =
-    let both = and-left (inRange (r .report) && isTime (r .report .t)) (between (pos 0) (pos 3071) (r .key)) h in
+    let both = and-left (inRange (r .report) && isTime (r .report .t)) (between (pos 0) (pos lastKey) (r .key)) h in
     record {
       report = and-left (inRange (r .report)) (isTime (r .report .t)) both;
       time = and-right (inRange (r .report)) (isTime (r .report .t)) both;
-      key = and-right (inRange (r .report) && isTime (r .report .t)) (between (pos 0) (pos 3071) (r .key)) h;
+      key = and-right (inRange (r .report) && isTime (r .report .t)) (between (pos 0) (pos lastKey) (r .key)) h;
     }
 
 pub parts-ranged : (r : Record) → InRanges r → isRanged r ≡ true
@@ -144,7 +144,7 @@ pub id-from : (r : Record) → isRanged r ≡ true → From 1 65535 (r .report .
 id-from r h = ranges (r .report) (ranged-parts r h .report) .id
 
 pub slot-below : (r : Record) → isRanged r ≡ true → slotOfKey (r .key) < slots
-slot-below r h = let f = between-from 0 3071 (r .key) (ranged-parts r h .key) in omega arith
+slot-below r h = let f = between-from 0 lastKey (r .key) (ranged-parts r h .key) in omega arith
 
 pub number-of-key-below : (key : ℤ) → numberOfKey key < cells
 number-of-key-below key = omega arith

@@ -2,7 +2,7 @@
 -- Assumes nothing.
 use mathlib.Core.Bool.{Bool, true, _&&_, _||_, cond}
 use mathlib.Core.List.{List, [], _∷_}
-use Prim.Native.Nat.{ℕ, _+_, _*_, _/_, _%_}
+use Prim.Native.Nat.{ℕ, _+_, _-_, _*_, _/_, _%_}
 use lib.Dec.{eqb}
 use lib.IntN.{ℤ, pos}
 use lib.Signed.{ltZ}
@@ -12,8 +12,12 @@ use Rattle.grid.specs.Units.{cells}
 use Rattle.grid.specs.Curve.{curveNumber}
 use Rattle.grid.specs.Reports.{cellAtTime}
 use Rattle.grid.specs.declared.Report.{Report}
-use Rattle.rows.specs.Phases.{referenceTime, livePhases, slotOf}
+use Rattle.rows.specs.Phases.{slots, referenceTime, livePhases, slotOf}
 use Rattle.records.specs.declared.Record.{Record}
+
+-- the last key of the three slots
+abbrev pub lastKey : ℕ
+lastKey = slots * cells - 1
 
 -- slot × 1,024 + curve number, of the cell of the float's position at the phase's reference time
 unfoldable pub keyIn : ℕ → Report → ℤ

@@ -14,7 +14,11 @@ abbrev pub recordWords : ℕ
 recordWords = 7
 
 abbrev pub storeWords : ℕ
-storeWords = 7175
+storeWords = recordWords * suc capacity
+
+-- and of all but record 0
+abbrev pub floatWords : ℕ
+floatWords = recordWords * capacity
 
 -- the record whose first word stands at k: key, id, t, x, y, vx, vy
 abbrev pub recordFrom : List ℤ → ℕ → Record

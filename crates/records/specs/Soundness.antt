@@ -15,7 +15,7 @@ use Rattle.rows.specs.Row.{driftOf, holds}
 use Rattle.rows.specs.Phases.{phaseOf}
 use Rattle.rows.specs.Table.{tableWords, rowAt, validTable}
 use Rattle.records.specs.Records.{recordWords, storeWords, nowOf, heldOf, recordsOf, storeOf}
-use Rattle.records.specs.Order.{keyIn, slotOfKey, numberOfKey, phaseOfKey, isSorted, hasId}
+use Rattle.records.specs.Order.{lastKey, keyIn, slotOfKey, numberOfKey, phaseOfKey, isSorted, hasId}
 use Rattle.records.specs.declared.Record.{Record}
 
 -- words named zero are zero
@@ -68,7 +68,7 @@ isSound s t = isSoundStore s && ((eqb (length t) tableWords && validTable t) && 
 
 -- ranges, and a key of the three slots
 unfoldable pub isRanged : Record → Bool
-isRanged r = (inRange (r .report) && isTime (r .report .t)) && between (pos 0) (pos 3071) (r .key)
+isRanged r = (inRange (r .report) && isTime (r .report .t)) && between (pos 0) (pos lastKey) (r .key)
 
 abbrev pub allRanged : List Record → Bool
 allRanged = every isRanged

@@ -16,6 +16,9 @@ pub const RECORD_WORDS: usize = 7;
 
 pub const STORE_WORDS: usize = RECORD_WORDS * (CAPACITY + 1);
 
+// The words of the store but record 0.
+pub const FLOAT_WORDS: usize = RECORD_WORDS * CAPACITY;
+
 // A held float: its key, which is slot x 1,024 + curve number, and its report.
 pub struct Record {
     pub key: i32,

@@ -7,7 +7,7 @@ ghost use lib.ListN.{length, drop};
 ghost use Rattle.ints.specs.Whole.{up, eqZ, between};
 ghost use Rattle.grid.specs.Curve.{IsCurve};
 ghost use Rattle.grid.specs.Reports.{isTime, isId, isPosition, isSpeed, inRange};
-ghost use Rattle.rows.specs.Phases.{phaseOf, livePhases};
+ghost use Rattle.rows.specs.Phases.{phaseOf, livePhases, lastPhase};
 ghost use Rattle.rows.specs.Row.{driftOf};
 ghost use Rattle.rows.specs.Table.{tableWords};
 ghost use Rattle.records.specs.Records.{recordWords, storeWords, nowOf, heldOf, readRecords, recordsOf};
@@ -32,9 +32,6 @@ const LEAST_SPEED: i32 = -GREATEST_SPEED;
 
 // The most floats held, as a word.
 const MOST_HELD: i32 = CAPACITY as i32;
-
-// The marks for ids, from 0 to the last.
-const MARKS: usize = (LAST_ID + 1) as usize;
 
 pub fn is_same(a: i32, b: i32) -> bool
     ensures { λ r. ⌜ r ≡ eqZ a b ⌝ }
@@ -161,8 +158,8 @@ pub fn phase_at(t: i32) -> usize
 
 // The key of a report in phase p: the slot, and the curve number of the cell at the phase's reference time. 277,777 is the phase of the
 // last time. `numbers` is the grid's table of curve numbers.
-pub fn key_in(numbers: &[u16; 1024], p: usize, r: Report) -> i32
-    requires { ⌜ (IsCurve (now numbers)) × (p ≤ 277777) × (inRange r ≡ true) × (isTime (r .t) ≡ true) ⌝ }
+pub fn key_in(numbers: &[u16; grid::CELLS], p: usize, r: Report) -> i32
+    requires { ⌜ (IsCurve (now numbers)) × (p ≤ lastPhase) × (inRange r ≡ true) × (isTime (r .t) ≡ true) ⌝ }
     ensures { λ k. ⌜ k ≡ keyIn p r ⌝ }
 {
     let number = grid::number_in(numbers, r.cell_at(rows::reference_time(p)));
@@ -170,7 +167,7 @@ pub fn key_in(numbers: &[u16; 1024], p: usize, r: Report) -> i32
 }
 
 // Whether the key is right for a live phase not before that of t.
-fn key_is_right(numbers: &[u16; 1024], time: i32, r: Record) -> bool
+fn key_is_right(numbers: &[u16; grid::CELLS], time: i32, r: Record) -> bool
     requires { ⌜ (IsCurve (now numbers)) × (isTime time ≡ true) × (inRange (r .report) ≡ true) × (isTime (r .report .t) ≡ true) ⌝ }
     ensures { λ b. ⌜ b ≡ keyIsRight time r ⌝ }
 {
@@ -182,7 +179,7 @@ fn key_is_right(numbers: &[u16; 1024], time: i32, r: Record) -> bool
 }
 
 // Ranges, t at most now, key right.
-fn is_sound_record(numbers: &[u16; 1024], time: i32, r: Record) -> bool
+fn is_sound_record(numbers: &[u16; grid::CELLS], time: i32, r: Record) -> bool
     requires { ⌜ (IsCurve (now numbers)) × (isTime time ≡ true) ⌝ }
     ensures { λ b. ⌜ b ≡ isSoundRecord time r ⌝ }
 {
@@ -225,7 +222,7 @@ fn ids_distinct(words: &[i32], n: usize) -> bool
     requires { ⌜ (recordWords * n ≤ length (now words)) × (allRanged (readRecords n (now words)) ≡ true) ⌝ }
     ensures { λ r. ⌜ r ≡ idsDistinct (readRecords n (now (words .entry))) ⌝ }
 {
-    let mut marks = [0u8; MARKS];
+    let mut marks = [0u8; grid::ID_MARKS];
     let mut i = 0;
     while i < n {
         let id = index_of(words[RECORD_WORDS * i + 1]);

@@ -9,7 +9,7 @@ use lib.IntN.{ℤ, pos}
 use lib.ListN.{getD, set, take, drop}
 use Rattle.grid.specs.Units.{cells}
 use Rattle.rows.specs.Row.{emptyRow, widened, validRow}
-use Rattle.rows.specs.Phases.{slotOf, livePhases}
+use Rattle.rows.specs.Phases.{slots, slotOf, livePhases}
 use Rattle.rows.specs.declared.Drift.{Drift}
 use Rattle.rows.specs.declared.Row.{Row}
 
@@ -18,10 +18,10 @@ abbrev pub rowWords : ℕ
 rowWords = 4
 
 abbrev pub slotWords : ℕ
-slotWords = 4096
+slotWords = rowWords * cells
 
 abbrev pub tableWords : ℕ
-tableWords = 12288
+tableWords = slots * slotWords
 
 -- the row whose first number stands at k
 abbrev pub rowFrom : List ℤ → ℕ → Row
@@ -84,4 +84,4 @@ validRows (suc n) t = validRow (rowFrom t 0) && validRows n (drop rowWords t)
 
 -- whether every row of the table is valid
 abbrev pub validTable : List ℤ → Bool
-validTable = validRows 3072
+validTable = validRows (slots * cells)

@@ -12,9 +12,9 @@ use Rattle.ints.specs.Lists.{passing, every}
 use Rattle.ints.proofs.Truth.{and-true, and-left, and-right}
 use Rattle.ints.proofs.Lists.{map-append, passing-append}
 use Rattle.grid.specs.Units.{capacity}
-use Rattle.rows.specs.Phases.{phaseOf, isLive}
+use Rattle.rows.specs.Phases.{phaseOf, isLive, lastPhase}
 use Rattle.rows.specs.Table.{tableWords, withRow}
-use Rattle.records.specs.Records.{recordWords, storeWords, recordFrom, nowOf, heldOf, readRecords, recordsOf, wordsOf, wordsOfAll, header, storeOf}
+use Rattle.records.specs.Records.{recordWords, storeWords, recordFrom, nowOf, heldOf, readRecords, recordsOf, wordsOf, wordsOfAll, header, storeOf, floatWords}
 use Rattle.records.specs.Order.{phaseOfKey}
 use Rattle.records.specs.Soundness.{isRanged, allRanged, IsStore}
 use Rattle.store.specs.Changes.{insertedAll, placedIn, stays, moves, replaced, steppedRecords, widenedBy, widenedByAll}
@@ -32,10 +32,10 @@ use Rattle.records.proofs.PlacesLaws.{read-later, rest-at}
 
 -- ---- the phases of a step are those of a time
 
-pub from-small : (step : Step) → IsStep step → step .from ≤ 277777
+pub from-small : (step : Step) → IsStep step → step .from ≤ lastPhase
 from-small step i = omega (arith, i .from-is, last-phase (step .now) (i .is-now))
 
-pub to-small : (step : Step) → IsStep step → step .to ≤ 277777
+pub to-small : (step : Step) → IsStep step → step .to ≤ lastPhase
 to-small step i = omega (arith, i .to-is, last-phase (step .time) (i .is-time))
 
 pub stays-is : (step : Step) → IsStep step → (r : Record) → isLive (step .to) (phaseOfKey (step .from) (r .key)) ≡ stays (step .now) (step .time) r
@@ -112,11 +112,11 @@ pub record Pass (s₀ : List ℤ) (to : ℕ) (staying moving : Record → Bool) 
   pub first : take (recordWords * k + recordWords) s ≡ take recordWords s₀ ++ wordsOfAll (passing staying (take i (recordsOf s₀)))
   pub rest : drop (recordWords * i + recordWords) s ≡ drop (recordWords * i + recordWords) s₀
   pub ranged : allRanged (drop i (recordsOf s₀)) ≡ true
-  pub long-dead : length dead ≡ 7168
+  pub long-dead : length dead ≡ floatWords
   pub dead-are : readRecords (i - k) dead ≡ replaced to moving (take i (recordsOf s₀))
   pub dead-ranged : allRanged (readRecords (i - k) dead) ≡ true
 
-pub pass-start : (s dead : List ℤ) (to : ℕ) (staying moving : Record → Bool) (n : ℕ) → IsStore s → n ≡ heldOf s → length dead ≡ 7168
+pub pass-start : (s dead : List ℤ) (to : ℕ) (staying moving : Record → Bool) (n : ℕ) → IsStore s → n ≡ heldOf s → length dead ≡ floatWords
     → Pass s to staying moving n s dead 0 0
 unfolding readRecords every passing wordsOfAll
 pass-start s dead to staying moving n q e l =

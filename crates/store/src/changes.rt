@@ -9,9 +9,9 @@ ghost use Rattle.grid.specs.Units.{capacity};
 ghost use Rattle.grid.specs.Curve.{IsCurve};
 ghost use Rattle.grid.specs.Reports.{isTime, inRange};
 ghost use Rattle.ints.specs.Lists.{passing};
-ghost use Rattle.rows.specs.Phases.{phaseOf};
+ghost use Rattle.rows.specs.Phases.{phaseOf, lastPhase};
 ghost use Rattle.rows.specs.Table.{tableWords};
-ghost use Rattle.records.specs.Records.{recordWords, nowOf, heldOf, readRecords, recordsOf, wordsOf, storeOf};
+ghost use Rattle.records.specs.Records.{recordWords, nowOf, heldOf, readRecords, recordsOf, wordsOf, storeOf, floatWords};
 ghost use Rattle.records.specs.Order.{precedes, hasId};
 ghost use Rattle.records.specs.Soundness.{isRanged, allRanged, IsStore};
 ghost use Rattle.store.specs.Changes.{inserted, insertedAll, removed, placedIn, stays, moves, replaced, steppedRecords, widenedBy, widenedByAll};
@@ -213,8 +213,8 @@ fn stays(step: Step, r: Record) -> bool
 }
 
 // A report placed in phase p. `numbers` is the grid's table of curve numbers.
-fn place_by(numbers: &[u16; 1024], p: usize, r: Report) -> Record
-    requires { ⌜ (IsCurve (now numbers)) × (p ≤ 277777) × (inRange r ≡ true) × (isTime (r .t) ≡ true) ⌝ }
+fn place_by(numbers: &[u16; grid::CELLS], p: usize, r: Report) -> Record
+    requires { ⌜ (IsCurve (now numbers)) × (p ≤ lastPhase) × (inRange r ≡ true) × (isTime (r .t) ≡ true) ⌝ }
     ensures { λ a. ⌜ a ≡ placedIn p r ⌝ }
 {
     Record {
@@ -224,7 +224,7 @@ fn place_by(numbers: &[u16; 1024], p: usize, r: Report) -> Record
 }
 
 pub fn place_in(p: usize, r: Report) -> Record
-    requires { ⌜ (p ≤ 277777) × (inRange r ≡ true) × (isTime (r .t) ≡ true) ⌝ }
+    requires { ⌜ (p ≤ lastPhase) × (inRange r ≡ true) × (isTime (r .t) ≡ true) ⌝ }
     ensures { λ a. ⌜ a ≡ placedIn p r ⌝ }
 {
     let numbers = grid::curve_numbers();
@@ -234,7 +234,7 @@ pub fn place_in(p: usize, r: Report) -> Record
 // One pass over the records: one that stays is written after those kept before it, any other to `dead`, placed in the phase of the time. Gives back how
 // many are kept. The count and the words after the kept records stay as they are: `take_dead` sets them.
 fn keep_live(store: &mut [i32], step: Step, dead: &mut [i32]) -> usize
-    requires { ⌜ (IsStore (now store)) × (IsStep step) × (length (now dead) ≡ 7168) ⌝ }
+    requires { ⌜ (IsStore (now store)) × (IsStep step) × (length (now dead) ≡ floatWords) ⌝ }
     ensures { λ k. ⌜ KeptFirst (stays (step .now) (step .time)) (now (store .entry)) k (now (store .exit)) ⌝ }
     ensures { λ k. ⌜ Taken (phaseOf (step .time)) (moves (step .now) (step .time)) (recordsOf (now (store .entry))) (heldOf (now (store .entry)) - k) (now (dead .exit)) ⌝ }
 {
@@ -262,7 +262,7 @@ fn keep_live(store: &mut [i32], step: Step, dead: &mut [i32]) -> usize
 
 // Takes the records that move out of the store, and writes them to `dead`, placed in the phase of the time. Gives back how many.
 fn take_dead(store: &mut [i32], step: Step, dead: &mut [i32]) -> usize
-    requires { ⌜ (IsStore (now store)) × (IsStep step) × (length (now dead) ≡ 7168) ⌝ }
+    requires { ⌜ (IsStore (now store)) × (IsStep step) × (length (now dead) ≡ floatWords) ⌝ }
     ensures { λ m. ⌜ now (store .exit) ≡ storeOf (nowOf (now (store .entry))) (passing (stays (step .now) (step .time)) (recordsOf (now (store .entry)))) ⌝ }
     ensures { λ m. ⌜ Taken (phaseOf (step .time)) (moves (step .now) (step .time)) (recordsOf (now (store .entry))) m (now (dead .exit)) ⌝ }
 {
@@ -319,7 +319,7 @@ pub fn step_records(store: &mut [i32], table: &mut [i16], step: Step)
     ensures { λ u. ⌜ now (store .exit) ≡ storeOf (nowOf (now (store .entry))) (steppedRecords (step .now) (step .time) (recordsOf (now (store .entry)))) ⌝ }
     ensures { λ u. ⌜ now (table .exit) ≡ widenedByAll (now (table .entry)) (replaced (phaseOf (step .time)) (moves (step .now) (step .time)) (recordsOf (now (store .entry)))) ⌝ }
 {
-    let mut dead = [0i32; 7168];
+    let mut dead = [0i32; records::FLOAT_WORDS];
     let m = take_dead(store, step, &mut dead);
     place_dead(store, table, &dead, m);
 }

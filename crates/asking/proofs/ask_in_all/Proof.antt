@@ -8,6 +8,7 @@ use borrow.Author.Needs.{needs}
 use lib.ListN.{length}
 use mir.Syntax.{w64}
 use native.Mathlib.Omega.{arith}
+use Rattle.grid.specs.Units.{idMarks}
 use Rattle.ints.proofs.Machine.{tested₁}
 use Rattle.rows.specs.Phases.{phaseOf, isLive, livePhases}
 use Rattle.rows.proofs.PhasesLaws.{range-live}
@@ -72,7 +73,7 @@ live-are c e = ap livePhases (sym (phase-is c)) ∙ e
 ready :
     (c : tie.After-phase-of) (k : ℕ) (ids : List ℕ)
     → isLive (c .phase-of .result) k ≡ true
-    → length ids ≡ 65536
+    → length ids ≡ idMarks
     → CanAskIn (lent (entry c)) (entry c .args .ask) k ids
 ready c k ids live long = record { can-ask = entry c .pre .can-ask; live = rw (← phase-is c) live; all-marks = long }
 

@@ -9,6 +9,7 @@ use native.Mathlib.Omega.{arith}
 use lib.IntN.{pos}
 use lib.ListN.{length, length-set, length-replicate, getD}
 use mir.Syntax.{w32}
+use Rattle.grid.specs.Units.{idMarks}
 use Rattle.ints.specs.Whole.{up}
 use Rattle.ints.proofs.Machine.{held, tested₁}
 use Rattle.records.specs.Records.{recordWords, recordFrom, readRecords}
@@ -22,7 +23,7 @@ use Rattle.records.proofs.soundness.ids_distinct.Tie as tie
 abbrev Inv-loop : tie.InvT-loop
 Inv-loop words n marks₀ i₀ marks i =
     (i ≤ n)
-    × (length marks ≡ 65536)
+    × (length marks ≡ idMarks)
     × (allRanged (left n i words) ≡ true)
     × (idsDistinct (readRecords n words) ≡ stillDistinct marks (left n i words))
 
@@ -33,9 +34,9 @@ loop-holds : tie.Need-loop-holds Inv-loop μ-loop
 loop-holds c =
     let a = c .args in (
       omega arith,
-      length-replicate {A = ℕ} 65536 0,
+      length-replicate {A = ℕ} idMarks 0,
       sym (ap allRanged (left-at-first (a .n) (a .words .now))) ∙ c .pre .1,
-      distinct-at-first 65536 (a .n) (a .words .now),
+      distinct-at-first idMarks (a .n) (a .words .now),
     )
 
 mul-index-of : tie.Need-mul-index-of Inv-loop μ-loop
@@ -68,7 +69,7 @@ index-is c =
     let id = getD (at .before .args .words .now) (recordWords * at .loop .i + 1) (pos 0) in
     tested₁ w32 up (c .index-of .result) id (c .index-of .ensures) (c .before .index-of-arg .given)
 
-index-below : (c : tie.After-index-of Inv-loop μ-loop) → c .index-of .result < 65536
+index-below : (c : tie.After-index-of Inv-loop μ-loop) → c .index-of .result < idMarks
 index-below c = let f = id-from _ (ranged (c .before .before)) in omega (arith, index-is c)
 
 array-read-if1 : tie.Need-array-read-if1 Inv-loop μ-loop
