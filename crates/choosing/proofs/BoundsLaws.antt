@@ -78,52 +78,52 @@ bounds-of-rows rows b row h k e p q =
 -- ---- the rows of a slot
 
 -- they are valid, which is what the claims are stated for
-pub slot-valid : {t : List ℤ} {slot : ℕ} → IsSlot t slot → ValidRows (rowsOfSlot t slot)
-slot-valid {t} {slot} s c on = valid-row-at t (s .valid-rows) slot (curveNumber c) (s .has-slot .one-of-three) (number-below c on)
+pub slot-valid : {table : List ℤ} {slot : ℕ} → IsSlot table slot → ValidRows (rowsOfSlot table slot)
+slot-valid {table} {slot} s c on = valid-row-at table (s .valid-rows) slot (curveNumber c) (s .has-slot .one-of-three) (number-below c on)
 
 -- ---- the phase's bounds
 
-module _ (t : List ℤ) (slot : ℕ) where
-  slot-has : (n number k : ℕ) → number ≤ k → k < number + n → List·Memᴰ (rowAt t slot k) (slotRows t slot number n)
+module _ (table : List ℤ) (slot : ℕ) where
+  slot-has : (n number k : ℕ) → number ≤ k → k < number + n → List·Memᴰ (rowAt table slot k) (slotRows table slot number n)
   unfolding slotRows
   slot-has zero number k h l = absurd (omega arith)
   slot-has (suc n) number k h l =
       dite (ℕ-discrete k number)
-      (λ e. List·Memᴰ·head (ap (rowAt t slot) e))
+      (λ e. List·Memᴰ·head (ap (rowAt table slot) e))
       (λ e. List·Memᴰ·tail (slot-has n (suc number) k (omega arith) (omega arith)))
 
   record InSlot (number n : ℕ) (r : Row) : Type 0 where
     k : ℕ
     from : number ≤ k
     to : k < number + n
-    is : r ≡ rowAt t slot k
+    is : r ≡ rowAt table slot k
 
-  in-slot : (n number : ℕ) (r : Row) → List·Memᴰ r (slotRows t slot number n) → InSlot number n r
+  in-slot : (n number : ℕ) (r : Row) → List·Memᴰ r (slotRows table slot number n) → InSlot number n r
   unfolding slotRows
   in-slot zero number r m = absurd (List·Memᴰ·not-nil m)
   in-slot (suc n) number r m =
       ⊎-elim
-      (λ (e : r ≡ rowAt t slot number). record { k = number; from = omega arith; to = omega arith; is = e })
+      (λ (e : r ≡ rowAt table slot number). record { k = number; from = omega arith; to = omega arith; is = e })
       (λ p. let s = in-slot n (suc number) r p in record { k = s .k; from = omega (arith, s .from); to = omega (arith, s .to); is = s .is })
       (List·Memᴰ·cases-cons m)
 
-  pub phase-bounds-are : boundsOf (slotRows t slot 0 cells) ≡ phaseBounds (rowsOfSlot t slot)
+  pub phase-bounds-are : boundsOf (slotRows table slot 0 cells) ≡ phaseBounds (rowsOfSlot table slot)
   unfolding boundsIn
   phase-bounds-are =
       within-antisym
-      (bounds-grow (slotRows t slot 0 cells) (map (rowsOfSlot t slot) (cellsOf wholeGrid)) into)
-      (bounds-grow (map (rowsOfSlot t slot) (cellsOf wholeGrid)) (slotRows t slot 0 cells) back)
+      (bounds-grow (slotRows table slot 0 cells) (map (rowsOfSlot table slot) (cellsOf wholeGrid)) into)
+      (bounds-grow (map (rowsOfSlot table slot) (cellsOf wholeGrid)) (slotRows table slot 0 cells) back)
     where
-      into : (r : Row) → List·Memᴰ r (slotRows t slot 0 cells) → List·Memᴰ r (map (rowsOfSlot t slot) (cellsOf wholeGrid))
+      into : (r : Row) → List·Memᴰ r (slotRows table slot 0 cells) → List·Memᴰ r (map (rowsOfSlot table slot) (cellsOf wholeGrid))
       into r m =
           let s = in-slot cells 0 r m in
           let on : s .k < cells = omega (arith, s .to) in
-          subst (λ (x : Row). List·Memᴰ x (map (rowsOfSlot t slot) (cellsOf wholeGrid))) (ap (rowAt t slot) (number-of-its-cell (s .k) on) ∙ sym (s .is))
-          (Memᴰ·map (rowsOfSlot t slot) (grid-has (cellOfNumber (s .k)) (cell-on-grid (s .k) on)))
+          subst (λ (x : Row). List·Memᴰ x (map (rowsOfSlot table slot) (cellsOf wholeGrid))) (ap (rowAt table slot) (number-of-its-cell (s .k) on) ∙ sym (s .is))
+          (Memᴰ·map (rowsOfSlot table slot) (grid-has (cellOfNumber (s .k)) (cell-on-grid (s .k) on)))
 
-      back : (r : Row) → List·Memᴰ r (map (rowsOfSlot t slot) (cellsOf wholeGrid)) → List·Memᴰ r (slotRows t slot 0 cells)
+      back : (r : Row) → List·Memᴰ r (map (rowsOfSlot table slot) (cellsOf wholeGrid)) → List·Memᴰ r (slotRows table slot 0 cells)
       back r m =
-          let k = Memᴰ·of-map (rowsOfSlot t slot) (cellsOf wholeGrid) m in
+          let k = Memᴰ·of-map (rowsOfSlot table slot) (cellsOf wholeGrid) m in
           let on = within-grid-on {b = wholeGrid} (omega arith) (k .1) in
-          subst (λ (x : Row). List·Memᴰ x (slotRows t slot 0 cells)) (k .2)
+          subst (λ (x : Row). List·Memᴰ x (slotRows table slot 0 cells)) (k .2)
           (slot-has cells 0 (curveNumber (k .0)) (omega arith) (omega (arith, number-below (k .0) on)))

@@ -98,11 +98,11 @@ module _ (rows : Rows) (aim : Aim) where
   -- by what a test of the cell gave back
   pub reached-one : (c : Cell) {r : Bool} → r ≡ isReached rows aim c → r ≡ true → reached rows aim (c ∷ []) ≡ c ∷ []
   unfolding passing
-  reached-one c is e = let t : isReached rows aim c ≡ true = sym is ∙ e in rw t
+  reached-one c is e = let table : isReached rows aim c ≡ true = sym is ∙ e in rw table
 
   pub reached-not : (c : Cell) {r : Bool} → r ≡ isReached rows aim c → r ≡ false → reached rows aim (c ∷ []) ≡ []
   unfolding passing
-  reached-not c is e = let t : isReached rows aim c ≡ false = sym is ∙ e in rw t
+  reached-not c is e = let table : isReached rows aim c ≡ false = sym is ∙ e in rw table
 
   pub empty-not-reached : (c : Cell) → isEmpty (rows c) ≡ true → false ≡ isReached rows aim c
   empty-not-reached c e = rw e

@@ -21,14 +21,14 @@ use Rattle.choosing.specs.declared.Searched.{Searched}
 -- ---- what is asked
 
 -- to choose, and to choose where the naive block is found and no mark is set yet
-pub record CanChoose (t : List ℤ) (slot : ℕ) (s : Slice) (marks : List ℕ) : Type 0 where
-  pub of-slot : IsSlot t slot
+pub record CanChoose (table : List ℤ) (slot : ℕ) (s : Slice) (marks : List ℕ) : Type 0 where
+  pub of-slot : IsSlot table slot
   pub ask : IsAsk s
   pub one-each : length marks ≡ cells
 
-pub record CanChooseWithin (t : List ℤ) (slot : ℕ) (s : Slice) (naive : Block) (marks : List ℕ) : Type 0 where
-  pub from-naive : CanSearch t slot s naive
-  pub is-naive : naiveBlock (rowsOfSlot t slot) (sliceAim s) ≡ found naive
+pub record CanChooseWithin (table : List ℤ) (slot : ℕ) (s : Slice) (naive : Block) (marks : List ℕ) : Type 0 where
+  pub from-naive : CanSearch table slot s naive
+  pub is-naive : naiveBlock (rowsOfSlot table slot) (sliceAim s) ≡ found naive
   pub none-set : marks ≡ noMarks
 
 -- ---- what is given back
@@ -44,6 +44,6 @@ pub record SearchIs (r : Searched) (s : Search) : Type 0 where
   pub rounds-are : r .rounds ≡ s .rounds
 
 -- a method's choice: the marks of the chosen cells and the rounds, and no count of the cells
-pub record ChosenBy (method : ℕ) (t : List ℤ) (slot : ℕ) (aim : Aim) (marks : List ℕ) (rounds : ℕ) : Type 0 where
-  pub marks-are : marks ≡ marksOf (choice method (rowsOfSlot t slot) aim .cells)
-  pub rounds-are : rounds ≡ choice method (rowsOfSlot t slot) aim .rounds
+pub record ChosenBy (method : ℕ) (table : List ℤ) (slot : ℕ) (aim : Aim) (marks : List ℕ) (rounds : ℕ) : Type 0 where
+  pub marks-are : marks ≡ marksOf (choice method (rowsOfSlot table slot) aim .cells)
+  pub rounds-are : rounds ≡ choice method (rowsOfSlot table slot) aim .rounds

@@ -42,27 +42,27 @@ pub record CanMarkCell (numbers : List ℕ) (c : Cell) (marks : List ℕ) : Type
 -- ---- the same for what is reached
 
 -- to search from a block
-pub record CanSearch (t : List ℤ) (slot : ℕ) (s : Slice) (b : Block) : Type 0 where
-  pub of-slot : IsSlot t slot
+pub record CanSearch (table : List ℤ) (slot : ℕ) (s : Slice) (b : Block) : Type 0 where
+  pub of-slot : IsSlot table slot
   pub ask : IsAsk s
   pub block-on : BlockOnGrid b
 
-pub record CanMarkReached (t : List ℤ) (slot : ℕ) (s : Slice) (b : Block) (marks : List ℕ) : Type 0 where
-  pub from-block : CanSearch t slot s b
+pub record CanMarkReached (table : List ℤ) (slot : ℕ) (s : Slice) (b : Block) (marks : List ℕ) : Type 0 where
+  pub from-block : CanSearch table slot s b
   pub one-each : length marks ≡ cells
 
-pub record CanMarkReachedInRow (numbers : List ℕ) (t : List ℤ) (slot : ℕ) (s : Slice) (b : Block) (row : ℕ) (marks : List ℕ) : Type 0 where
+pub record CanMarkReachedInRow (numbers : List ℕ) (table : List ℤ) (slot : ℕ) (s : Slice) (b : Block) (row : ℕ) (marks : List ℕ) : Type 0 where
   pub curve : IsCurve numbers
-  pub from-block : CanSearch t slot s b
+  pub from-block : CanSearch table slot s b
   pub row-on : row < side
   pub one-each : length marks ≡ cells
 
-pub record CanTest (numbers : List ℕ) (t : List ℤ) (slot : ℕ) (s : Slice) (c : Cell) : Type 0 where
+pub record CanTest (numbers : List ℕ) (table : List ℤ) (slot : ℕ) (s : Slice) (c : Cell) : Type 0 where
   pub curve : IsCurve numbers
-  pub of-slot : IsSlot t slot
+  pub of-slot : IsSlot table slot
   pub ask : IsAsk s
   pub on-grid : OnGrid c
 
-pub record CanMarkIfReached (numbers : List ℕ) (t : List ℤ) (slot : ℕ) (s : Slice) (c : Cell) (marks : List ℕ) : Type 0 where
-  pub to-test : CanTest numbers t slot s c
+pub record CanMarkIfReached (numbers : List ℕ) (table : List ℤ) (slot : ℕ) (s : Slice) (c : Cell) (marks : List ℕ) : Type 0 where
+  pub to-test : CanTest numbers table slot s c
   pub one-each : length marks ≡ cells

@@ -1,11 +1,12 @@
 // The bounds of the rows of a block, from one slot of a lent table.
 ghost use mathlib.Core.Path.{_≡_};
 ghost use mathlib.Core.List.{map};
+ghost use Rattle.rows.specs.Needs.{HasSlot};
 ghost use Rattle.rows.specs.Row.{boundsOf};
 ghost use Rattle.methods.specs.Reach.{columnsOf, cellsOfRow};
 ghost use Rattle.methods.specs.Methods.{boundsIn, phaseBounds};
 ghost use Rattle.methods.specs.Slots.{rowsOfSlot};
-ghost use Rattle.choosing.specs.Bounds.{HasSlot, CanBound, CanBoundRow, CanReadCell};
+ghost use Rattle.choosing.specs.Bounds.{CanBound, CanBoundRow, CanReadCell};
 use grid::Cell;
 use methods::Block;
 use rows::Row;

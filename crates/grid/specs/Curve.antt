@@ -86,6 +86,11 @@ cellOfNumber = cellAt order
 pub record IsCurve (numbers : List ℕ) : Type 0 where
   pub numbered : (c : Cell) → OnGrid c → getD numbers (c .row * side + c .column) 0 ≡ curveNumber c
 
+-- to look a cell's number up in it
+pub record CanLookUp (numbers : List ℕ) (c : Cell) : Type 0 where
+  pub curve : IsCurve numbers
+  pub on-grid : OnGrid c
+
 -- how many sides must be crossed from one cell to the other: 1 where they share a side
 abbrev pub apart : Cell → Cell → ℕ
 apart a b = (a .column - b .column) + (b .column - a .column) + ((a .row - b .row) + (b .row - a .row))

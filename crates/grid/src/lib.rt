@@ -1,12 +1,11 @@
 // The grid of document 01: the column and row of a position, the curve number of a cell, and where a float is after some seconds.
 // Positions are centimetres, speeds centimetres per second, times seconds.
 ghost use mathlib.Core.Path.{_≡_};
-ghost use Prim.Native.Nat.{_≤_, _^_};
-ghost use lib.IntN.{natAbs, _-ℤ_};
-ghost use Rattle.grid.specs.Places.{positionAfter, columnOf, rowOf, cellOf, OnGrid};
-ghost use Rattle.grid.specs.Curve.{curveNumber, IsCurve};
+ghost use lib.IntN.{_-ℤ_};
+ghost use Rattle.grid.specs.Places.{positionAfter, columnOf, rowOf, cellOf};
+ghost use Rattle.grid.specs.Curve.{curveNumber, IsCurve, CanLookUp};
 ghost use Rattle.grid.specs.Reports.{rectOf, xAt, yAt, cellAtTime, inRect, isListed};
-ghost use Rattle.grid.specs.Small.{SmallAxis, SmallReport};
+ghost use Rattle.grid.specs.Small.{SmallMove, SmallAxis, SmallReport};
 ghost use Rattle.ints.specs.Whole.{between};
 
 mod curve_table;
@@ -71,7 +70,7 @@ pub struct Report {
 
 // Where a float is along one axis, `elapsed` seconds after it was at x.
 pub fn position_after(x: i64, v: i64, elapsed: i64) -> i64
-    requires { ⌜ (natAbs x ≤ 2 ^ 44) × (natAbs v ≤ 501) × (natAbs elapsed ≤ 2 ^ 31) ⌝ }
+    requires { ⌜ SmallMove x v elapsed ⌝ }
     ensures { λ r. ⌜ r ≡ positionAfter x v elapsed ⌝ }
 {
     x + v * elapsed
@@ -117,7 +116,7 @@ pub fn curve_numbers() -> [u16; CELLS]
 
 // The curve number of a cell, by that table.
 pub fn number_in(numbers: &[u16; CELLS], c: Cell) -> usize
-    requires { ⌜ (IsCurve (now numbers)) × (OnGrid c) ⌝ }
+    requires { ⌜ CanLookUp (now numbers) c ⌝ }
     ensures { λ r. ⌜ r ≡ curveNumber c ⌝ }
 {
     wide(numbers[c.row * SIDE + c.column])

@@ -9,4 +9,4 @@ use Rattle.methods.specs.Methods.{Rows}
 
 -- the rows of a slot, by cell
 abbrev pub rowsOfSlot : List ℤ → ℕ → Rows
-rowsOfSlot t slot c = rowAt t slot (curveNumber c)
+rowsOfSlot table slot c = rowAt table slot (curveNumber c)

@@ -3,3 +3,4 @@ pub mod Order
 pub mod Soundness
 pub mod Places
 pub mod Words
+pub mod Needs

@@ -54,15 +54,15 @@ isSoundStore s =
 
 -- whether the row of a record's cell holds its speeds
 abbrev pub inOwnRow : List ℤ → Record → Bool
-inOwnRow t r = holds (rowAt t (slotOfKey (r .key)) (numberOfKey (r .key))) (driftOf (r .report))
+inOwnRow table r = holds (rowAt table (slotOfKey (r .key)) (numberOfKey (r .key))) (driftOf (r .report))
 
 -- each float's speeds in its row
 abbrev pub speedsInRows : List ℤ → List Record → Bool
-speedsInRows t = every (inOwnRow t)
+speedsInRows table = every (inOwnRow table)
 
 -- whether a store and a table are sound, whatever their lengths
 unfoldable pub isSound : List ℤ → List ℤ → Bool
-isSound s t = isSoundStore s && ((eqb (length t) tableWords && validTable t) && speedsInRows t (recordsOf s))
+isSound s table = isSoundStore s && ((eqb (length table) tableWords && validTable table) && speedsInRows table (recordsOf s))
 
 -- ---- what the functions that work on a store ask of it. A sound store has it, and so has each store on the way from one to the next
 

@@ -5,14 +5,13 @@ ghost use mathlib.Core.Bool.{_&&_, true};
 ghost use Prim.Native.Nat.{_≤_, _+_, _*_};
 ghost use lib.ListN.{length, drop};
 ghost use Rattle.ints.specs.Whole.{up, eqZ, between};
-ghost use Rattle.grid.specs.Curve.{IsCurve};
-ghost use Rattle.grid.specs.Reports.{isTime, isId, isPosition, isSpeed, inRange};
-ghost use Rattle.rows.specs.Phases.{phaseOf, livePhases, lastPhase};
+ghost use Rattle.grid.specs.Reports.{isId, isPosition, isSpeed, inRange};
+ghost use Rattle.rows.specs.Phases.{phaseOf, livePhases};
 ghost use Rattle.rows.specs.Row.{driftOf};
-ghost use Rattle.rows.specs.Table.{tableWords};
 ghost use Rattle.records.specs.Records.{recordWords, storeWords, nowOf, heldOf, readRecords, recordsOf};
 ghost use Rattle.records.specs.Order.{keyIn, slotOfKey, numberOfKey, phaseWithSlot, phaseOfKey, precedes, isSorted};
-ghost use Rattle.records.specs.Soundness.{allZero, keyIsRight, isSoundRecord, allSound, idsDistinct, isSoundHeader, isSoundStore, inOwnRow, speedsInRows, isSound, isRanged, allRanged};
+ghost use Rattle.records.specs.Soundness.{allZero, keyIsRight, isSoundRecord, allSound, idsDistinct, isSoundHeader, isSoundStore, inOwnRow, speedsInRows, isSound};
+ghost use Rattle.records.specs.Needs.{CanKey, CanJudgeKey, CanJudge, CanJudgeAll, RangedRecords, CanFindRow, CanFindRows, HasHeader};
 use crate::CAPACITY;
 use crate::RECORD_WORDS;
 use crate::Record;
@@ -159,7 +158,7 @@ pub fn phase_at(t: i32) -> usize
 // The key of a report in phase p: the slot, and the curve number of the cell at the phase's reference time. 277,777 is the phase of the
 // last time. `numbers` is the grid's table of curve numbers.
 pub fn key_in(numbers: &[u16; grid::CELLS], p: usize, r: Report) -> i32
-    requires { ⌜ (IsCurve (now numbers)) × (p ≤ lastPhase) × (inRange r ≡ true) × (isTime (r .t) ≡ true) ⌝ }
+    requires { ⌜ CanKey (now numbers) p r ⌝ }
     ensures { λ k. ⌜ k ≡ keyIn p r ⌝ }
 {
     let number = grid::number_in(numbers, r.cell_at(rows::reference_time(p)));
@@ -168,7 +167,7 @@ pub fn key_in(numbers: &[u16; grid::CELLS], p: usize, r: Report) -> i32
 
 // Whether the key is right for a live phase not before that of t.
 fn key_is_right(numbers: &[u16; grid::CELLS], time: i32, r: Record) -> bool
-    requires { ⌜ (IsCurve (now numbers)) × (isTime time ≡ true) × (inRange (r .report) ≡ true) × (isTime (r .report .t) ≡ true) ⌝ }
+    requires { ⌜ CanJudgeKey (now numbers) time r ⌝ }
     ensures { λ b. ⌜ b ≡ keyIsRight time r ⌝ }
 {
     let p = phase_of_key(phase_at(time), r.key);
@@ -180,7 +179,7 @@ fn key_is_right(numbers: &[u16; grid::CELLS], time: i32, r: Record) -> bool
 
 // Ranges, t at most now, key right.
 fn is_sound_record(numbers: &[u16; grid::CELLS], time: i32, r: Record) -> bool
-    requires { ⌜ (IsCurve (now numbers)) × (isTime time ≡ true) ⌝ }
+    requires { ⌜ CanJudge (now numbers) time ⌝ }
     ensures { λ b. ⌜ b ≡ isSoundRecord time r ⌝ }
 {
     if !in_range(r.report) {
@@ -194,7 +193,7 @@ fn is_sound_record(numbers: &[u16; grid::CELLS], time: i32, r: Record) -> bool
 
 // Whether the first n records are sound, in one pass.
 fn all_sound(words: &[i32], n: usize, time: i32) -> bool
-    requires { ⌜ (recordWords * n ≤ length (now words)) × (isTime time ≡ true) ⌝ }
+    requires { ⌜ CanJudgeAll (now words) n time ⌝ }
     ensures { λ r. ⌜ r ≡ allSound time (readRecords n (now (words .entry))) ⌝ }
 {
     let numbers = grid::curve_numbers();
@@ -219,7 +218,7 @@ fn index_of(id: i32) -> usize
 
 // Whether the ids of the first n records differ, in one pass: a mark for each id seen.
 fn ids_distinct(words: &[i32], n: usize) -> bool
-    requires { ⌜ (recordWords * n ≤ length (now words)) × (allRanged (readRecords n (now words)) ≡ true) ⌝ }
+    requires { ⌜ RangedRecords (now words) n ⌝ }
     ensures { λ r. ⌜ r ≡ idsDistinct (readRecords n (now (words .entry))) ⌝ }
 {
     let mut marks = [0u8; grid::ID_MARKS];
@@ -256,7 +255,7 @@ pub fn drift_of(r: Report) -> Drift
 
 // Whether the row of a record's cell holds its speeds.
 fn is_in_row(table: &[i16], r: Record) -> bool
-    requires { ⌜ (length (now table) ≡ tableWords) × (isRanged r ≡ true) ⌝ }
+    requires { ⌜ CanFindRow (now table) r ⌝ }
     ensures { λ b. ⌜ b ≡ inOwnRow (now (table .entry)) r ⌝ }
 {
     let row = Row::read(table, slot_of_key(r.key), number_of_key(r.key));
@@ -265,8 +264,7 @@ fn is_in_row(table: &[i16], r: Record) -> bool
 
 // Whether the row of each of the first n records holds its speeds, in one pass.
 fn speeds_in_rows(table: &[i16], words: &[i32], n: usize) -> bool
-    requires { ⌜ length (now table) ≡ tableWords ⌝ }
-    requires { ⌜ (recordWords * n ≤ length (now words)) × (allRanged (readRecords n (now words)) ≡ true) ⌝ }
+    requires { ⌜ CanFindRows (now table) (now words) n ⌝ }
     ensures { λ r. ⌜ r ≡ speedsInRows (now (table .entry)) (readRecords n (now (words .entry))) ⌝ }
 {
     let mut i = 0;
@@ -296,7 +294,7 @@ fn is_sound_header(store: &[i32]) -> bool
 
 // The records of a store whose record 0 is sound, and its unused words.
 fn is_sound_body(store: &[i32]) -> bool
-    requires { ⌜ (length (now store) ≡ storeWords) × (isSoundHeader (now store) ≡ true) ⌝ }
+    requires { ⌜ HasHeader (now store) ⌝ }
     ensures { λ r. ⌜ r ≡ (allSound (nowOf (now (store .entry))) (recordsOf (now (store .entry))) && isSorted (recordsOf (now (store .entry))))
         && (idsDistinct (recordsOf (now (store .entry))) && allZero (drop (recordWords * (heldOf (now (store .entry)) + 1)) (now (store .entry)))) ⌝ }
 {

@@ -29,30 +29,30 @@ pub slot-cases : (c slot : ℕ) → slot < slots → ((p : ℕ) × (isLive c p �
 unfolding slotOf
 slot-cases c slot h =
     dite (decLe slot c)
-    (λ l. let t = phase-in-slot c slot l in inl (t .0, t .1, t .2 ∙ omega arith))
+    (λ l. let table = phase-in-slot c slot l in inl (table .0, table .1, table .2 ∙ omega arith))
     (λ n. inr (λ p live e. omega (arith, live-range c p live)))
 
 later-other :
-    (t : List ℤ) (earlier : ℕ) (ps : List ℕ) (slot number : ℕ)
-    → length t ≡ tableWords
+    (table : List ℤ) (earlier : ℕ) (ps : List ℕ) (slot number : ℕ)
+    → length table ≡ tableWords
     → number < cells
     → ((p : ℕ) → List·Memᴰ p ps → slotOf p ≡ slot → ⊥)
-    → rowAt (withLaterEmpty t earlier ps) slot number ≡ rowAt t slot number
+    → rowAt (withLaterEmpty table earlier ps) slot number ≡ rowAt table slot number
 unfolding withLaterEmpty
-later-other t earlier [] slot number e h far = refl
-later-other t earlier (p ∷ ps) slot number e h far =
-    later-other (emptiedIfLater t earlier p) earlier ps slot number (length-later-empty t earlier (p ∷ []) e) h (λ q m. far q (List·Memᴰ·tail m))
+later-other table earlier [] slot number e h far = refl
+later-other table earlier (p ∷ ps) slot number e h far =
+    later-other (emptiedIfLater table earlier p) earlier ps slot number (length-later-empty table earlier (p ∷ []) e) h (λ q m. far q (List·Memᴰ·tail m))
     ∙ go (ltb earlier p)
   where
-    go : (later : Bool) → rowAt (cond later (withSlotEmpty t (slotOf p)) t) slot number ≡ rowAt t slot number
-    go true = row-kept t (slotOf p) e (slot-on p) slot number h (λ same. far p (List·Memᴰ·head refl) (sym same))
+    go : (later : Bool) → rowAt (cond later (withSlotEmpty table (slotOf p)) table) slot number ≡ rowAt table slot number
+    go true = row-kept table (slotOf p) e (slot-on p) slot number h (λ same. far p (List·Memᴰ·head refl) (sym same))
     go false = refl
 
 pub other-slot-kept :
-    (t : List ℤ) (earlier c slot number : ℕ)
-    → length t ≡ tableWords
+    (table : List ℤ) (earlier c slot number : ℕ)
+    → length table ≡ tableWords
     → number < cells
     → ((p : ℕ) → isLive c p ≡ true → slotOf p ≡ slot → ⊥)
-    → rowAt (withNewlyLiveEmpty t earlier c) slot number ≡ rowAt t slot number
-other-slot-kept t earlier c slot number e h far =
-    later-other t earlier (livePhases c) slot number e h (λ p m. far p (listed-live c p m))
+    → rowAt (withNewlyLiveEmpty table earlier c) slot number ≡ rowAt table slot number
+other-slot-kept table earlier c slot number e h far =
+    later-other table earlier (livePhases c) slot number e h (λ p m. far p (listed-live c p m))

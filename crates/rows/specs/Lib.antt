@@ -1,3 +1,4 @@
 pub mod Row
 pub mod Phases
 pub mod Table
+pub mod Needs

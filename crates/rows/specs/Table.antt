@@ -25,11 +25,11 @@ tableWords = slots * slotWords
 
 -- the row whose first number stands at k
 abbrev pub rowFrom : List ℤ → ℕ → Row
-rowFrom t k = record {
-  «least_vx» = getD t k (pos 0);
-  «greatest_vx» = getD t (k + 1) (pos 0);
-  «least_vy» = getD t (k + 2) (pos 0);
-  «greatest_vy» = getD t (k + 3) (pos 0);
+rowFrom table k = record {
+  «least_vx» = getD table k (pos 0);
+  «greatest_vx» = getD table (k + 1) (pos 0);
+  «least_vy» = getD table (k + 2) (pos 0);
+  «greatest_vy» = getD table (k + 3) (pos 0);
 }
 
 -- where the row of a slot and a curve number starts
@@ -38,20 +38,20 @@ rowPlace slot number = slotWords * slot + rowWords * number
 
 -- the row of a slot and a curve number
 unfoldable pub rowAt : List ℤ → ℕ → ℕ → Row
-rowAt t slot number = rowFrom t (rowPlace slot number)
+rowAt table slot number = rowFrom table (rowPlace slot number)
 
 -- the table with another row there
 unfoldable pub withRow : List ℤ → ℕ → ℕ → Row → List ℤ
-withRow t slot number r =
+withRow table slot number r =
     let k = rowPlace slot number in
     set
-    (set (set (set t k (r .«least_vx»)) (k + 1) (r .«greatest_vx»)) (k + 2) (r .«least_vy»))
+    (set (set (set table k (r .«least_vx»)) (k + 1) (r .«greatest_vx»)) (k + 2) (r .«least_vy»))
     (k + 3)
     (r .«greatest_vy»)
 
 -- the table with that row widened by a drift
 abbrev pub withDrift : List ℤ → ℕ → ℕ → Drift → List ℤ
-withDrift t slot number v = withRow t slot number (widened (rowAt t slot number) v)
+withDrift table slot number v = withRow table slot number (widened (rowAt table slot number) v)
 
 -- so many empty rows, as words
 unfoldable pub emptyRows : ℕ → List ℤ
@@ -61,26 +61,26 @@ emptyRows (suc n) =
 
 -- the table with one slot's third emptied; the other two thirds stay
 unfoldable pub withSlotEmpty : List ℤ → ℕ → List ℤ
-withSlotEmpty t slot = take (slotWords * slot) t ++ (emptyRows cells ++ drop (slotWords * slot + slotWords) t)
+withSlotEmpty table slot = take (slotWords * slot) table ++ (emptyRows cells ++ drop (slotWords * slot + slotWords) table)
 
 -- the table with the slots of those phases emptied that come after the phase `earlier`
 unfoldable pub withLaterEmpty : List ℤ → ℕ → List ℕ → List ℤ
-withLaterEmpty t earlier [] = t
-withLaterEmpty t earlier (p ∷ ps) = withLaterEmpty (cond (ltb earlier p) (withSlotEmpty t (slotOf p)) t) earlier ps
+withLaterEmpty table earlier [] = table
+withLaterEmpty table earlier (p ∷ ps) = withLaterEmpty (cond (ltb earlier p) (withSlotEmpty table (slotOf p)) table) earlier ps
 
 -- the table with the rows of every newly live phase emptied, the current phase being c and before it `earlier`
 abbrev pub withNewlyLiveEmpty : List ℤ → ℕ → ℕ → List ℤ
-withNewlyLiveEmpty t earlier c = withLaterEmpty t earlier (livePhases c)
+withNewlyLiveEmpty table earlier c = withLaterEmpty table earlier (livePhases c)
 
 -- n rows of a slot, by curve number from `number` on
 unfoldable pub slotRows : List ℤ → ℕ → ℕ → ℕ → List Row
-slotRows t slot number zero = []
-slotRows t slot number (suc n) = rowAt t slot number ∷ slotRows t slot (suc number) n
+slotRows table slot number zero = []
+slotRows table slot number (suc n) = rowAt table slot number ∷ slotRows table slot (suc number) n
 
 -- whether the first n rows of some words are valid
 unfoldable pub validRows : ℕ → List ℤ → Bool
-validRows zero t = true
-validRows (suc n) t = validRow (rowFrom t 0) && validRows n (drop rowWords t)
+validRows zero table = true
+validRows (suc n) table = validRow (rowFrom table 0) && validRows n (drop rowWords table)
 
 -- whether every row of the table is valid
 abbrev pub validTable : List ℤ → Bool

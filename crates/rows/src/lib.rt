@@ -7,8 +7,9 @@ ghost use lib.ListN.{length};
 ghost use Rattle.ints.specs.Whole.{minZ, maxZ, eqZ, between};
 ghost use Rattle.grid.specs.Units.{cells};
 ghost use Rattle.rows.specs.Row.{emptyRow, joined, widened, holds, sameRow, isEmpty, validAxis, validRow, boundsOf};
-ghost use Rattle.rows.specs.Phases.{phaseOf, referenceTime, isLive, slotOf, slots};
+ghost use Rattle.rows.specs.Phases.{phaseOf, referenceTime, isLive, slotOf};
 ghost use Rattle.rows.specs.Table.{slotWords, tableWords, rowAt, rowFrom, withRow, withDrift, emptyRows, withSlotEmpty, withNewlyLiveEmpty, slotRows, validTable};
+ghost use Rattle.rows.specs.Needs.{HasSlot, HasRow};
 
 // The length of a phase, in seconds.
 pub const PHASE_SECONDS: usize = 3600;
@@ -186,14 +187,14 @@ impl Row {
 
     // The row of a slot and a curve number.
     pub fn read(table: &[i16], slot: usize, number: usize) -> Row
-        requires { ⌜ (length (now table) ≡ tableWords) × (slot < slots) × (number < cells) ⌝ }
+        requires { ⌜ HasRow (now table) slot number ⌝ }
         ensures { λ r. ⌜ r ≡ rowAt (now (table .entry)) slot number ⌝ }
     {
         Row::read_from(table, SLOT_WORDS * slot + ROW_WORDS * number)
     }
 
     pub fn write(self, table: &mut [i16], slot: usize, number: usize)
-        requires { ⌜ (length (now table) ≡ tableWords) × (slot < slots) × (number < cells) ⌝ }
+        requires { ⌜ HasRow (now table) slot number ⌝ }
         ensures { λ u. ⌜ now (table .exit) ≡ withRow (now (table .entry)) slot number self ⌝ }
     {
         let k = SLOT_WORDS * slot + ROW_WORDS * number;
@@ -225,7 +226,7 @@ fn widen_copy(mut row: Row, drift: Drift) -> Row
 
 // The row of a slot and a curve number widened by a drift.
 pub fn widen_row(table: &mut [i16], slot: usize, number: usize, drift: Drift)
-    requires { ⌜ (length (now table) ≡ tableWords) × (slot < slots) × (number < cells) ⌝ }
+    requires { ⌜ HasRow (now table) slot number ⌝ }
     ensures { λ u. ⌜ now (table .exit) ≡ withDrift (now (table .entry)) slot number drift ⌝ }
 {
     let row = widen_copy(Row::read(table, slot, number), drift);
@@ -249,7 +250,7 @@ fn empty_rows(third: &mut [i16])
 
 // A new phase clears only its own slot's third of the table.
 pub fn empty_slot(table: &mut [i16], slot: usize)
-    requires { ⌜ (length (now table) ≡ tableWords) × (slot < slots) ⌝ }
+    requires { ⌜ HasSlot (now table) slot ⌝ }
     ensures { λ u. ⌜ now (table .exit) ≡ withSlotEmpty (now (table .entry)) slot ⌝ }
 {
     let start = SLOT_WORDS * slot;
@@ -294,7 +295,7 @@ pub fn empty_newly_live(table: &mut [i16], earlier: usize, c: usize)
 
 // The bounds of all rows of a slot, in one pass.
 pub fn slot_bounds(table: &[i16], slot: usize) -> Row
-    requires { ⌜ (length (now table) ≡ tableWords) × (slot < slots) ⌝ }
+    requires { ⌜ HasSlot (now table) slot ⌝ }
     ensures { λ r. ⌜ r ≡ boundsOf (slotRows (now (table .entry)) slot 0 cells) ⌝ }
 {
     let mut bounds = Row::empty();

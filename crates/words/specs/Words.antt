@@ -22,8 +22,8 @@ opened time w = record {
 
 -- the rows of every newly live phase emptied; then the row of each re-placed float widened
 unfoldable pub tableStepped : ℤ → ℤ → List Record → List ℤ → List ℤ
-tableStepped now time rs t =
-    widenedByAll (withNewlyLiveEmpty t (phaseOf now) (phaseOf time)) (replaced (phaseOf time) (moves now time) rs)
+tableStepped now time rs table =
+    widenedByAll (withNewlyLiveEmpty table (phaseOf now) (phaseOf time)) (replaced (phaseOf time) (moves now time) rs)
 
 unfoldable pub stepped : ℤ → Words → Words
 stepped time w = record {

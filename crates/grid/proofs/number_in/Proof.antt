@@ -21,7 +21,7 @@ wide-requires : tie.Need-wide-requires
 wide-requires c κs = search needs
 
 returns : tie.Need-returns
-returns c = let e = c .before .before .before .before in c .wide .ensures ∙ e .pre .0 .numbered (e .args .c) (e .pre .1)
+returns c = let e = c .before .before .before .before in c .wide .ensures ∙ e .pre .curve .numbered (e .args .c) (e .pre .on-grid)
 
 pub number-in-spec : {M : Type 1} → statement M
 number-in-spec =

@@ -11,13 +11,13 @@ use Rattle.grid.proofs.position_after.Statement.{statement}
 use Rattle.grid.proofs.position_after.Tie as tie
 
 product : (c : tie.Start) → SFits w64 (c .args .v *ℤ c .args .elapsed)
-product c = fits (omega (arith, mul-small (c .args .v) (c .args .elapsed) _ _ (c .pre .1) (c .pre .2)))
+product c = fits (omega (arith, mul-small (c .args .v) (c .args .elapsed) _ _ (c .pre .small-v) (c .pre .small-elapsed)))
 
 total : (c : tie.Start) → SFits w64 (c .args .x +ℤ c .args .v *ℤ c .args .elapsed)
 total c =
     fits
     (omega
-    (arith, abs (c .args .x), add (c .args .x) (c .args .v *ℤ c .args .elapsed), mul-small (c .args .v) (c .args .elapsed) _ _ (c .pre .1) (c .pre .2)))
+    (arith, abs (c .args .x), add (c .args .x) (c .args .v *ℤ c .args .elapsed), mul-small (c .args .v) (c .args .elapsed) _ _ (c .pre .small-v) (c .pre .small-elapsed)))
 
 mul-result : tie.Need-mul-result
 mul-result c = simp (toZ-ofZ, c .fits .v, c .fits .elapsed) (product c)

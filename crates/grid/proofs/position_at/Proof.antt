@@ -50,12 +50,13 @@ sub-position-after c = simp (s-is c, t-is c) (elapsed c)
 position-after-requires : tie.Need-position-after-requires
 position-after-requires c κs =
     let a = c .before .before .before in
-    simp (x-is c, v-is c, s-is c, t-is c, toZ-ofZ (elapsed c)) (
-      a .pre .small-x,
-      a .pre .small-v,
-      (omega
-          (arith, sub (a .args .s) (a .args .t), abs (a .args .s -ℤ a .args .t), abs (a .args .s), abs (a .args .t), one-part (a .args .s -ℤ a .args .t), a .pre .small-s, a .pre .small-t)),
-    )
+    simp (x-is c, v-is c, s-is c, t-is c, toZ-ofZ (elapsed c))
+    (record {
+      small-x = a .pre .small-x;
+      small-v = a .pre .small-v;
+      small-elapsed = omega
+          (arith, sub (a .args .s) (a .args .t), abs (a .args .s -ℤ a .args .t), abs (a .args .s), abs (a .args .t), one-part (a .args .s -ℤ a .args .t), a .pre .small-s, a .pre .small-t);
+    })
 
 returns : tie.Need-returns
 returns c =

@@ -13,7 +13,9 @@ slot-of-requires : tie.Need-slot-of-requires
 slot-of-requires c κs = search needs
 
 empty-slot-requires : tie.Need-empty-slot-requires
-empty-slot-requires c κs = (c .before .before .before .pre, rw (c .slot-of .ensures) (slot-on (c .before .before .before .args .p)))
+empty-slot-requires c κs =
+    let s = c .before .before .before in
+    record { whole-table = s .pre; one-of-three = rw (c .slot-of .ensures) (slot-on (s .args .p)) }
 
 same-length : tie.Need-same-length
 same-length c = search needs

@@ -15,7 +15,11 @@ number-in-requires c κs = search needs
 read-requires : tie.Need-read-requires
 read-requires c κs =
     let a = c .before in
-    (a .pre .has-slot .whole-table, a .pre .has-slot .one-of-three, omega (arith, c .number-in .ensures, number-below (a .args .c) (a .pre .on-grid)))
+    record {
+      whole-table = a .pre .has-slot .whole-table;
+      one-of-three = a .pre .has-slot .one-of-three;
+      number-on = omega (arith, c .number-in .ensures, number-below (a .args .c) (a .pre .on-grid));
+    }
 
 returns : tie.Need-returns
 returns c =

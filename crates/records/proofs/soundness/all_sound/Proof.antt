@@ -38,7 +38,7 @@ is-sound-record-requires : tie.Need-is-sound-record-requires Inv-loop μ-loop
 is-sound-record-requires c κs =
     let k = c .before .before .before .before in
     let s = k .before in
-    (k .curve-numbers .ensures, rw (held w32 (s .args .time) (search needs)) (s .pre .1))
+    record { curve = k .curve-numbers .ensures; is-time = rw (held w32 (s .args .time) (search needs)) (s .pre .is-time) }
 
 -- the entry, and the loop as seen from a test
 abbrev start : tie.At-loop Inv-loop μ-loop → tie.Start Inv-loop μ-loop

@@ -35,7 +35,7 @@ loop-holds c =
     let a = c .args in (
       omega arith,
       length-replicate {A = ℕ} idMarks 0,
-      sym (ap allRanged (left-at-first (a .n) (a .words .now))) ∙ c .pre .1,
+      sym (ap allRanged (left-at-first (a .n) (a .words .now))) ∙ c .pre .ranged,
       distinct-at-first idMarks (a .n) (a .words .now),
     )
 

@@ -26,17 +26,18 @@ number-is c = tested₁ w32 numberOfKey (c .number-of-key .result) (c .before .b
 
 read-requires : tie.Need-read-requires
 read-requires c κs =
-    let s = c .before .before .before .before in (
-      s .pre .0,
-      omega (arith, slot-is (c .before .before), slot-below (s .args .r) (s .pre .1)),
-      omega (arith, number-is c, number-of-key-below (s .args .r .key)),
-    )
+    let s = c .before .before .before .before in
+    record {
+      whole-table = s .pre .whole-table;
+      one-of-three = omega (arith, slot-is (c .before .before), slot-below (s .args .r) (s .pre .ranged));
+      number-on = omega (arith, number-is c, number-of-key-below (s .args .r .key));
+    }
 
 drift-of-requires : tie.Need-drift-of-requires
 drift-of-requires c κs =
     let nu = c .before in
     let s = nu .before .before .before .before in
-    ranged-parts (s .args .r) (s .pre .1) .report
+    ranged-parts (s .args .r) (s .pre .ranged) .report
 
 holds-requires : tie.Need-holds-requires
 holds-requires c κs = search needs

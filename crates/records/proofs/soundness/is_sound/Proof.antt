@@ -81,7 +81,7 @@ module _ (c : tie.After-held-of) where
 speeds-in-rows-requires : tie.Need-speeds-in-rows-requires
 speeds-in-rows-requires c κs =
     let g = c .before .before .before .before in
-    (g .before .before .if1 .left, (fits c, rw (records-are c) (sound g .ranged)))
+    record { whole-table = g .before .before .if1 .left; enough = fits c; ranged = rw (records-are c) (sound g .ranged) }
 
 returns-4 : tie.Need-returns-4
 unfolding isSound

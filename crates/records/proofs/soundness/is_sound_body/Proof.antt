@@ -40,7 +40,7 @@ abbrev lent : List ℤ → List ℤ
 lent s = take (length s - recordWords) (drop recordWords s)
 
 first : (c : tie.Start) → SoundHeader (c .args .store .now)
-first c = sound-header (c .args .store .now) (c .pre .1)
+first c = sound-header (c .args .store .now) (c .pre .header)
 
 module _ (c : tie.After-held-of) where
   few : c .held-of .result ≤ capacity
@@ -50,7 +50,7 @@ module _ (c : tie.After-held-of) where
   fits =
       let s = c .before .args .store .now in
       let h = few in
-      let long = c .before .pre .0 in
+      let long = c .before .pre .long in
       rw (part-from recordWords s) (simp length-drop (omega arith))
 
   records-are : readRecords (c .held-of .result) (lent (c .before .args .store .now)) ≡ recordsOf (c .before .args .store .now)
@@ -61,7 +61,7 @@ all-sound-requires : tie.Need-all-sound-requires
 all-sound-requires c κs =
     let h = c .before .before in
     let s = h .before .args .store .now in
-    rw (held w32 (getD s 0 (pos 0)) (c .all-sound-arg2 .given)) (fits h, first (h .before) .time)
+    rw (held w32 (getD s 0 (pos 0)) (c .all-sound-arg2 .given)) (record { enough = fits h; is-time = first (h .before) .time })
 
 sound-is : (c : tie.After-all-sound) → c .all-sound .result ≡ allSound (nowOf (c .before .before .before .before .args .store .now)) (recordsOf (c .before .before .before .before .args .store .now))
 sound-is c =
@@ -120,7 +120,7 @@ ids-distinct-requires c κs =
     let h = counted2 (c .before) in
     let s = h .before .args .store .now in
     let one = c .before .before .before .before in
-    (fits h, rw (records-are h) (all-sound-ranged (nowOf s) (recordsOf s) (first (h .before) .time) (sound-passed one)))
+    record { enough = fits h; ranged = rw (records-are h) (all-sound-ranged (nowOf s) (recordsOf s) (first (h .before) .time) (sound-passed one)) }
 
 distinct-is : (c : tie.After-ids-distinct) → c .ids-distinct .result ≡ idsDistinct (recordsOf (counted2 (c .before .before) .before .args .store .now))
 distinct-is c = c .ids-distinct .ensures ∙ ap idsDistinct (records-are (counted2 (c .before .before)))
@@ -149,21 +149,21 @@ sub-all-zero : tie.Need-sub-all-zero
 sub-all-zero c =
     let h = counted3 c in
     let f = few h in
-    let long = h .before .pre .0 in
+    let long = h .before .pre .long in
     omega arith
 
 part-all-zero-start : tie.Need-part-all-zero-start
 part-all-zero-start c =
     let h = counted3 c in
     let f = few h in
-    let long = h .before .pre .0 in
+    let long = h .before .pre .long in
     omega arith
 
 part-all-zero-end : tie.Need-part-all-zero-end
 part-all-zero-end c =
     let h = counted3 c in
     let f = few h in
-    let long = h .before .pre .0 in
+    let long = h .before .pre .long in
     omega arith
 
 all-zero-requires : tie.Need-all-zero-requires

@@ -46,7 +46,12 @@ key-is-right-requires : tie.Need-key-is-right-requires
 key-is-right-requires c κs =
     let s = start c in
     let e = sym (not-after (c .before)) ∙ not-false (c .before .is-between .result) (c .if2 .left) in
-    (s .pre .0, rw (held w32 (s .args .time) (search needs)) (s .pre .1), in-range-is (c .before .before .before), earlier-time (s .args .time) (s .args .r .report .t) (s .pre .1) e)
+    record {
+      curve = s .pre .curve;
+      is-time = rw (held w32 (s .args .time) (search needs)) (s .pre .is-time);
+      in-range = in-range-is (c .before .before .before);
+      sent = earlier-time (s .args .time) (s .args .r .report .t) (s .pre .is-time) e;
+    }
 
 returns-3 : tie.Need-returns-3
 unfolding isSoundRecord

@@ -28,7 +28,11 @@ returns-2 c =
     sym (simp (long (c .before .before), e))
 
 is-sound-body-requires : tie.Need-is-sound-body-requires
-is-sound-body-requires c κs = (c .before .before .if1 .left, sym (c .before .is-sound-header .ensures) ∙ not-false (c .before .is-sound-header .result) (c .if2 .left))
+is-sound-body-requires c κs =
+    record {
+      long = c .before .before .if1 .left;
+      header = sym (c .before .is-sound-header .ensures) ∙ not-false (c .before .is-sound-header .result) (c .if2 .left);
+    }
 
 returns-3 : tie.Need-returns-3
 unfolding isSoundStore

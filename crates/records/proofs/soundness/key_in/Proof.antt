@@ -28,7 +28,7 @@ at-reference c = got w64 (c .reference-time .result) (referenceTime (c .before .
 cell-at-requires : tie.Need-cell-at-requires
 cell-at-requires c κs =
     let a = c .before in
-    rw (at-reference c) (small-report (a .args .p) (a .args .r) (a .pre .1) (a .pre .2) (a .pre .3))
+    rw (at-reference c) (small-report (a .args .p) (a .args .r) (a .pre .not-late) (a .pre .in-range) (a .pre .sent))
 
 cell-is : (c : tie.After-cell-at) → c .cell-at .result ≡ cellAtTime (c .before .before .args .r) (referenceTime (c .before .before .args .p))
 cell-is c = c .cell-at .ensures ∙ ap (cellAtTime (c .before .before .args .r)) (at-reference (c .before))
@@ -37,7 +37,7 @@ number-in-requires : tie.Need-number-in-requires
 number-in-requires c κs =
     let s = c .before .before in
     let a = s .args in
-    (s .pre .0, rw (cell-is c) (cell-on (xAt (a .r) (referenceTime (a .p))) (yAt (a .r) (referenceTime (a .p)))))
+    record { curve = s .pre .curve; on-grid = rw (cell-is c) (cell-on (xAt (a .r) (referenceTime (a .p))) (yAt (a .r) (referenceTime (a .p)))) }
 
 slot-of-requires : tie.Need-slot-of-requires
 slot-of-requires c κs = search needs

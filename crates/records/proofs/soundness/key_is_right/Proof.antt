@@ -70,7 +70,12 @@ key-in-requires : tie.Need-key-in-requires
 key-in-requires c κs =
     let s = start (c .before) in
     let p = key-phase (c .before) in
-    (s .pre .0, omega (arith, last-phase (s .args .time) (s .pre .1), phase-of-key-small (phaseOf (s .args .time)) (s .args .r .key)), s .pre .2, s .pre .3)
+    record {
+      curve = s .pre .curve;
+      not-late = omega (arith, last-phase (s .args .time) (s .pre .is-time), phase-of-key-small (phaseOf (s .args .time)) (s .args .r .key));
+      in-range = s .pre .in-range;
+      sent = s .pre .sent;
+    }
 
 is-same-requires : tie.Need-is-same-requires
 is-same-requires c κs = search needs

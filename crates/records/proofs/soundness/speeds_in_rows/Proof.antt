@@ -22,7 +22,7 @@ abbrev μ-loop : tie.MeasureT-loop
 loop-holds : tie.Need-loop-holds Inv-loop μ-loop
 loop-holds c =
     let a = c .args in
-    (omega arith, sym (ap allRanged (left-at-first (a .n) (a .words .now))) ∙ c .pre .1 .1, ap (speedsInRows (a .table .now)) (left-at-first (a .n) (a .words .now)))
+    (omega arith, sym (ap allRanged (left-at-first (a .n) (a .words .now))) ∙ c .pre .ranged, ap (speedsInRows (a .table .now)) (left-at-first (a .n) (a .words .now)))
 
 mul-read-from : tie.Need-mul-read-from Inv-loop μ-loop
 mul-read-from c = search needs
@@ -34,7 +34,10 @@ is-in-row-requires : tie.Need-is-in-row-requires Inv-loop μ-loop
 is-in-row-requires c κs =
     let at = c .before .before in
     let a = at .before .args in
-    (at .before .pre .0, rw (c .read-from .ensures) (ranged-here (a .n) (at .loop .i) (a .words .now) (omega arith) (at .loop .inv .1) .0))
+    record {
+      whole-table = at .before .pre .whole-table;
+      ranged = rw (c .read-from .ensures) (ranged-here (a .n) (at .loop .i) (a .words .now) (omega arith) (at .loop .inv .1) .0);
+    }
 
 -- the test of the record at i
 test :

@@ -35,7 +35,11 @@ widen-row-requires : tie.Need-widen-row-requires
 widen-row-requires c κs =
     let n = c .before in
     let s = start n in
-    (s .pre .0, omega (arith, slot-is (n .before .before), slot-below (s .args .r) (s .pre .1)), omega (arith, number-is n, number-of-key-below (s .args .r .key)))
+    record {
+      whole-table = s .pre .0;
+      one-of-three = omega (arith, slot-is (n .before .before), slot-below (s .args .r) (s .pre .1));
+      number-on = omega (arith, number-is n, number-of-key-below (s .args .r .key));
+    }
 
 same-length : tie.Need-same-length
 same-length c = search needs
