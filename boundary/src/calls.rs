@@ -2,10 +2,10 @@
 //! known.
 
 use dice::Dice;
-use plain_ledger::calls::{ask, later, sighting, spoiled, Fleet, Pace};
-use plain_ledger::ledger::{Call, Ledger, Sighting};
+use plain_ledger::calls::{ask, later, report, spoiled, Fleet, Pace};
+use plain_ledger::ledger::{Call, Ledger, Report};
 use plain_ledger::limits::{LAST_ID, LAST_METHOD, LAST_TIME, MOST_HELD};
-use plain_ledger::lines::{call, sighting_numbers};
+use plain_ledger::lines::{call, report_numbers};
 
 /// How time passes, and how floats lie and move, in these calls.
 const PACES: [Pace; 8] = {
@@ -17,7 +17,7 @@ const FLEETS: [Fleet; 4] = [Fleet::Any, Fleet::Edges, Fleet::Limits, Fleet::Corn
 /// What is known of the index that is called.
 pub struct Setting {
     pub now: i64,
-    pub floats: Vec<Sighting>,
+    pub floats: Vec<Report>,
 }
 
 impl Setting {
@@ -62,7 +62,7 @@ impl Setting {
             }
             _ => {
                 let (id, t) = (self.id(dice, letter == b'A'), self.later(dice));
-                sighting_numbers(&any_sighting(dice, id, t)).to_vec()
+                report_numbers(&any_report(dice, id, t)).to_vec()
             }
         }
     }
@@ -73,7 +73,7 @@ impl Setting {
         later(dice, self.now, pace).max(self.now).min(LAST_TIME)
     }
 
-    fn float(&self, dice: &mut Dice) -> Option<Sighting> {
+    fn float(&self, dice: &mut Dice) -> Option<Report> {
         self.floats.get(dice.below(self.floats.len().max(1))).copied()
     }
 
@@ -97,7 +97,7 @@ impl Setting {
 }
 
 /// A report of a float of any fleet.
-pub fn any_sighting(dice: &mut Dice, id: i64, t: i64) -> Sighting {
+pub fn any_report(dice: &mut Dice, id: i64, t: i64) -> Report {
     let fleet = dice.pick(&FLEETS);
-    sighting(dice, fleet, id, t)
+    report(dice, fleet, id, t)
 }

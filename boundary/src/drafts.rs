@@ -1,13 +1,13 @@
 //! Stores and tables put together float by float: sound ones that no list of
 //! calls need lead to, and ones with one flaw.
 
-use crate::calls::{any_sighting, Setting};
+use crate::calls::{any_report, Setting};
 use crate::ledgers::{key_in, record, small, Keyed};
 use buffers::{Row, Words, EMPTY, HELD, KEYS, NOW, RECORD_WORDS};
 use dice::{scattered, Dice};
 use float_index::STORE_WORDS;
 use plain_ledger::calls::start;
-use plain_ledger::ledger::{live, Sighting};
+use plain_ledger::ledger::{live, Report};
 use plain_ledger::limits::{CELLS, LAST_ID, LAST_TIME, PHASE, SEA, TOP_SPEED};
 
 /// An index on paper: floats with their keys, and the rows by key.
@@ -29,7 +29,7 @@ impl Draft {
         }
         for _ in 0..dice.range(0, 60) {
             let key = dice.below(KEYS) as i64;
-            draft.widen(key, any_sighting(dice, 1, 0).speed);
+            draft.widen(key, any_report(dice, 1, 0).speed);
         }
         draft
     }
@@ -41,15 +41,15 @@ impl Draft {
         let last = self.now.min(PHASE * phase + PHASE - 1);
         let ago = dice.pick(&[0, 1, 60, PHASE, 3 * PHASE, 1_000_000, LAST_TIME]);
         let t = (last - dice.range(0, ago)).max(0);
-        self.hold(phase, any_sighting(dice, id, t));
+        self.hold(phase, any_report(dice, id, t));
     }
 
     /// Holds a report in a phase, its row widened.
-    fn hold(&mut self, phase: i64, report: Sighting) {
+    fn hold(&mut self, phase: i64, report: Report) {
         self.hold_by(key_in(phase, &report), report);
     }
 
-    fn hold_by(&mut self, key: i64, report: Sighting) {
+    fn hold_by(&mut self, key: i64, report: Report) {
         self.floats.push((key, report));
         self.widen(key, report.speed);
     }
@@ -88,7 +88,7 @@ impl Draft {
     }
 
     /// Holds a float again with one flaw, and all else as it should be.
-    fn put_back(&mut self, dice: &mut Dice, key: i64, mut report: Sighting) {
+    fn put_back(&mut self, dice: &mut Dice, key: i64, mut report: Report) {
         let c = self.now / PHASE;
         let axis = dice.below(2);
         let top = TOP_SPEED;

@@ -3,40 +3,39 @@
 //! buffers' own; phases, cells and curve numbers are the ledger's.
 
 use buffers::{rows, Record, Words, KEYS, NOW};
-use float_index::Report;
 use plain_ledger::grid::{cell, curve_number};
-use plain_ledger::ledger::{live, slot, Held, Ledger, Sighting};
+use plain_ledger::ledger::{live, slot, Held, Ledger, Report};
 use plain_ledger::limits::{CELLS, PHASE};
 use plain_ledger::methods::{Row, Wrong};
 
 /// A report with its key, in the ledger's numbers.
-pub type Keyed = (i64, Sighting);
+pub type Keyed = (i64, Report);
 
 /// A number of a call or a word, which generators keep in 32 bits.
 pub fn small(number: i64) -> i32 {
     i32::try_from(number).expect("numbers fit 32 bits")
 }
 
-/// What the index is told of a sighting.
-pub fn report(s: &Sighting) -> Report {
+/// What the index is told of a report.
+pub fn told(s: &Report) -> float_index::Report {
     let [x, y] = s.at.map(small);
     let [vx, vy] = s.speed.map(small);
-    Report { id: small(s.id), t: small(s.t), x, y, vx, vy }
+    float_index::Report { id: small(s.id), t: small(s.t), x, y, vx, vy }
 }
 
-pub fn record((key, sighting): &Keyed) -> Record {
-    buffers::record(small(*key), report(sighting))
+pub fn record((key, report): &Keyed) -> Record {
+    buffers::record(small(*key), told(report))
 }
 
 pub fn keyed(record: &Record) -> Keyed {
-    let Report { id, t, x, y, vx, vy } = buffers::report(record);
+    let float_index::Report { id, t, x, y, vx, vy } = buffers::report(record);
     let (at, speed) = ([x, y].map(i64::from), [vx, vy].map(i64::from));
-    let sighting = Sighting { id: id.into(), t: t.into(), at, speed };
-    (record[buffers::KEY].into(), sighting)
+    let report = Report { id: id.into(), t: t.into(), at, speed };
+    (record[buffers::KEY].into(), report)
 }
 
 /// The key of a report in a phase.
-pub fn key_in(phase: i64, report: &Sighting) -> i64 {
+pub fn key_in(phase: i64, report: &Report) -> i64 {
     buffers::key(slot(phase), curve_number(cell(report.position(PHASE * phase)))) as i64
 }
 

@@ -4,7 +4,7 @@
 
 use crate::ledgers::{key_in, keyed, Keyed};
 use buffers::{records, rows, Row, Words, EMPTY, HELD, NOW, RECORD_WORDS};
-use plain_ledger::ledger::{live, slot, Sighting};
+use plain_ledger::ledger::{live, slot, Report};
 use plain_ledger::limits::{CELLS, LAST_ID, LAST_TIME, MOST_HELD, PHASE, SEA, TOP_SPEED};
 
 plain_ledger::listed! {
@@ -74,7 +74,7 @@ impl Sound {
     }
 
     fn record(&self, now: i64, (key, report): &Keyed) -> bool {
-        let Sighting { id, t, at, speed } = report;
+        let Report { id, t, at, speed } = report;
         self.check(Clause::Ids, (1..=LAST_ID).contains(id))
             && self.check(Clause::Positions, at.iter().all(|x| (0..=SEA).contains(x)))
             && self.check(Clause::Speeds, speed.iter().all(|v| v.abs() <= TOP_SPEED))
@@ -84,7 +84,7 @@ impl Sound {
     }
 
     /// The key is right for a live phase that is not before that of t.
-    fn key(&self, now: i64, key: i64, report: &Sighting) -> bool {
+    fn key(&self, now: i64, key: i64, report: &Report) -> bool {
         let is_live = |p: &i64| {
             let not_before = *p >= report.t.div_euclid(PHASE);
             self.check(Clause::KeyNotBeforeReport, not_before)

@@ -1,7 +1,7 @@
 //! One buffer tried: lent to a call, and the reply and all three buffers
 //! afterwards compared with what document 01 says.
 
-use crate::ledgers::{read, report, small, write};
+use crate::ledgers::{read, small, told, write};
 use crate::sound::Sound;
 use buffers::Words;
 use float_index::{refusal, Rectangle, Reply};
@@ -186,8 +186,8 @@ fn run(call: &Call, store: &mut [i32], table: &mut [i16], list: &mut [u16]) -> R
     match call {
         Call::Open { t } => float_index::open(store, table, small(*t)),
         Call::Clock { t } => float_index::clock(store, table, small(*t)),
-        Call::Add(s) => float_index::add(store, table, report(s)),
-        Call::Report(s) => float_index::report(store, table, report(s)),
+        Call::Add(s) => float_index::add(store, table, told(s)),
+        Call::Report(s) => float_index::report(store, table, told(s)),
         Call::Drop { id, t } => float_index::drop(store, table, small(*id), small(*t)),
         Call::Ask(ask) => {
             let [low_x, low_y] = ask.rectangle.low.map(small);

@@ -1,7 +1,7 @@
 //! Numbers for calls, from dice: times, places, rectangles, and numbers at the
 //! ends of their ranges and past them.
 
-use crate::ledger::Sighting;
+use crate::ledger::Report;
 use crate::limits::{ASK_AFTER, ASK_BEFORE, LAST_ID, LAST_METHOD, LAST_TIME};
 use crate::limits::{PHASE, SEA, SIDE, TOP_SPEED, WIDTH};
 use crate::lines::{GREATEST, LEAST};
@@ -67,10 +67,10 @@ pub fn later(dice: &mut Dice, now: i64, pace: Pace) -> i64 {
 }
 
 /// A report of a float that lies and moves so.
-pub fn sighting(dice: &mut Dice, fleet: Fleet, id: i64, t: i64) -> Sighting {
+pub fn report(dice: &mut Dice, fleet: Fleet, id: i64, t: i64) -> Report {
     let fast = dice.chance(25);
     let [(x, vx), (y, vy)] = [0; 2].map(|_| place(dice, fleet, t, fast));
-    Sighting { id, t, at: [x, y], speed: [vx, vy] }
+    Report { id, t, at: [x, y], speed: [vx, vy] }
 }
 
 /// A coordinate and a speed on one axis.
@@ -116,7 +116,7 @@ fn graded(dice: &mut Dice, any: i64, t: i64) -> (i64, i64) {
 
 /// An ask's time and corners, all in range; many rectangles lie about the place
 /// that a float has then.
-pub fn ask(dice: &mut Dice, now: i64, float: impl Fn(&mut Dice) -> Option<Sighting>) -> [i64; 5] {
+pub fn ask(dice: &mut Dice, now: i64, float: impl Fn(&mut Dice) -> Option<Report>) -> [i64; 5] {
     let (first, last) = (now - ASK_BEFORE, now + ASK_AFTER);
     let border = now / PHASE * PHASE + PHASE * dice.range(-2, 2);
     let time = match dice.range(0, 7) {

@@ -5,10 +5,10 @@
 //! A ledger runs along, so that most calls are accepted and asks can aim at
 //! floats. The same number always gives the same lists.
 
-use crate::calls::{ask, later, sighting, spoiled, start, Fleet, Pace};
-use crate::ledger::{Ledger, Sighting};
+use crate::calls::{ask, later, report, spoiled, start, Fleet, Pace};
+use crate::ledger::{Ledger, Report};
 use crate::limits::{LAST_ID, LAST_METHOD, LAST_TIME, MOST_HELD, SEA, TOP_SPEED};
-use crate::lines::{sighting_numbers, write_line, COLUMNS, LONGEST};
+use crate::lines::{report_numbers, write_line, COLUMNS, LONGEST};
 use crate::stream::{answers, Stream};
 use dice::Dice;
 
@@ -163,8 +163,8 @@ impl Maker {
 
     /// A report, or an add, of a float that lies and moves so.
     fn sight(&mut self, letter: u8, fleet: Fleet, id: i64, t: i64) {
-        let sighting = sighting(&mut self.dice, fleet, id, t);
-        self.put(letter, &sighting_numbers(&sighting));
+        let report = report(&mut self.dice, fleet, id, t);
+        self.put(letter, &report_numbers(&report));
     }
 
     fn put_ask(&mut self, method: i64, numbers: [i64; 5]) {
@@ -292,7 +292,7 @@ impl Maker {
             }
             _ => {
                 let id = self.held_id();
-                sighting_numbers(&sighting(&mut self.dice, fleet, id, t)).to_vec()
+                report_numbers(&report(&mut self.dice, fleet, id, t)).to_vec()
             }
         };
         (letter, numbers)
@@ -379,7 +379,7 @@ impl Maker {
 }
 
 /// A held report, where there is one.
-fn any_held(ledger: &Ledger, dice: &mut Dice) -> Option<Sighting> {
+fn any_held(ledger: &Ledger, dice: &mut Dice) -> Option<Report> {
     let number = dice.below(ledger.reports().len().max(1));
     ledger.reports().nth(number).copied()
 }

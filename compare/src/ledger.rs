@@ -14,14 +14,14 @@ use std::collections::BTreeMap;
 
 /// What a float reported: its id, the time, its position and its speed.
 #[derive(Clone, Copy, Debug, PartialEq, Eq)]
-pub struct Sighting {
+pub struct Report {
     pub id: i64,
     pub t: i64,
     pub at: [i64; 2],
     pub speed: [i64; 2],
 }
 
-impl Sighting {
+impl Report {
     /// The position at time s.
     pub fn position(&self, s: i64) -> [i64; 2] {
         [0, 1].map(|axis| self.at[axis] + self.speed[axis] * (s - self.t))
@@ -39,8 +39,8 @@ pub struct Ask {
 pub enum Call {
     Open { t: i64 },
     Clock { t: i64 },
-    Add(Sighting),
-    Report(Sighting),
+    Add(Report),
+    Report(Report),
     Drop { id: i64, t: i64 },
     Ask(Ask),
 }
@@ -58,14 +58,14 @@ pub enum Answer {
 /// A held report with the phase and cell in which it is placed.
 #[derive(Clone, Copy, Debug, PartialEq, Eq)]
 pub struct Held {
-    pub report: Sighting,
+    pub report: Report,
     pub phase: i64,
     pub cell: usize,
 }
 
 impl Held {
     /// The report placed in a phase.
-    pub fn placed(report: Sighting, phase: i64) -> Held {
+    pub fn placed(report: Report, phase: i64) -> Held {
         let cell = cell(report.position(PHASE * phase));
         Held { report, phase, cell }
     }
@@ -103,7 +103,7 @@ fn id_in_range(id: i64) -> bool {
     (1..=LAST_ID).contains(&id)
 }
 
-fn sighting_in_range(s: &Sighting) -> bool {
+fn report_in_range(s: &Report) -> bool {
     id_in_range(s.id)
         && s.at.iter().all(|x| (0..=SEA).contains(x))
         && s.speed.iter().all(|v| v.abs() <= TOP_SPEED)
@@ -160,7 +160,7 @@ impl Ledger {
     }
 
     /// The held reports, ids rising.
-    pub fn reports(&self) -> impl ExactSizeIterator<Item = &Sighting> {
+    pub fn reports(&self) -> impl ExactSizeIterator<Item = &Report> {
         self.held.values().map(|held| &held.report)
     }
 
@@ -169,8 +169,8 @@ impl Ledger {
         let value = match call {
             Call::Open { t } => self.open(*t),
             Call::Clock { t } => self.clock(*t),
-            Call::Add(sighting) => self.add(sighting),
-            Call::Report(sighting) => self.report(sighting),
+            Call::Add(report) => self.add(report),
+            Call::Report(report) => self.report(report),
             Call::Drop { id, t } => self.drop(*id, *t),
             Call::Ask(ask) => match self.ask(ask) {
                 Ok(Answer::Listed { ids, .. }) if ids.len() > list => {
@@ -198,22 +198,22 @@ impl Ledger {
         Ok(())
     }
 
-    fn add(&mut self, sighting: &Sighting) -> Result<(), i64> {
-        self.check_time(sighting.t)?;
-        check(sighting_in_range(sighting), 4)?;
-        check(!self.held.contains_key(&sighting.id), 5)?;
+    fn add(&mut self, report: &Report) -> Result<(), i64> {
+        self.check_time(report.t)?;
+        check(report_in_range(report), 4)?;
+        check(!self.held.contains_key(&report.id), 5)?;
         check(self.held.len() < MOST_HELD, 7)?;
-        self.step(sighting.t);
-        self.place(sighting);
+        self.step(report.t);
+        self.place(report);
         Ok(())
     }
 
-    fn report(&mut self, sighting: &Sighting) -> Result<(), i64> {
-        self.check_time(sighting.t)?;
-        check(sighting_in_range(sighting), 4)?;
-        check(self.held.contains_key(&sighting.id), 6)?;
-        self.step(sighting.t);
-        self.place(sighting);
+    fn report(&mut self, report: &Report) -> Result<(), i64> {
+        self.check_time(report.t)?;
+        check(report_in_range(report), 4)?;
+        check(self.held.contains_key(&report.id), 6)?;
+        self.step(report.t);
+        self.place(report);
         Ok(())
     }
 
@@ -285,14 +285,14 @@ impl Ledger {
         self.placements.retain(|(phase, ..)| live(c).contains(phase));
         let old = self.held.values();
         let old = old.filter(|held| !live(c).contains(&held.phase));
-        let old: Vec<Sighting> = old.map(|held| held.report).collect();
+        let old: Vec<Report> = old.map(|held| held.report).collect();
         for report in &old {
             self.place(report);
         }
     }
 
     /// Holds the report and places it in the current phase.
-    fn place(&mut self, report: &Sighting) {
+    fn place(&mut self, report: &Report) {
         let phase = self.now / PHASE;
         let held = Held::placed(*report, phase);
         self.held.insert(report.id, held);

@@ -1,7 +1,7 @@
 //! Call lines read strictly, call lines and answer lines written.
 
 use crate::grid::Rectangle;
-use crate::ledger::{Answer, Ask, Call, Sighting};
+use crate::ledger::{Answer, Ask, Call, Report};
 
 /// The columns of a number.
 pub const COLUMNS: usize = 10;
@@ -32,10 +32,10 @@ pub fn call(letter: u8, numbers: &[i64]) -> Option<Call> {
         (b'D', &[id, t]) => Call::Drop { id, t },
         (b'A' | b'U', &[id, t, x, y, vx, vy]) => {
             let (at, speed) = ([x, y], [vx, vy]);
-            let sighting = Sighting { id, t, at, speed };
+            let report = Report { id, t, at, speed };
             match letter {
-                b'A' => Call::Add(sighting),
-                _ => Call::Report(sighting),
+                b'A' => Call::Add(report),
+                _ => Call::Report(report),
             }
         }
         (b'Q', &[method, time, low_x, low_y, high_x, high_y]) => Call::Ask(Ask {
@@ -49,7 +49,7 @@ pub fn call(letter: u8, numbers: &[i64]) -> Option<Call> {
 }
 
 /// The numbers of an add or a report.
-pub fn sighting_numbers(s: &Sighting) -> [i64; 6] {
+pub fn report_numbers(s: &Report) -> [i64; 6] {
     [s.id, s.t, s.at[0], s.at[1], s.speed[0], s.speed[1]]
 }
 

@@ -13,8 +13,8 @@ fn open(t: i64) -> Ledger {
     ledger
 }
 
-fn sighting(id: i64, t: i64, at: [i64; 2], speed: [i64; 2]) -> Sighting {
-    Sighting { id, t, at, speed }
+fn report(id: i64, t: i64, at: [i64; 2], speed: [i64; 2]) -> Report {
+    Report { id, t, at, speed }
 }
 
 fn ask(method: i64, time: i64, low: [i64; 2], high: [i64; 2]) -> Ask {
@@ -59,7 +59,7 @@ fn p11_cells_and_rounds() {
     let mut ledger = open(0);
     let floats = [(2_700_000, 0), (1_100_000, 200), (5_300_000, 500)];
     for (id, (x, vx)) in (1..).zip(floats) {
-        let call = Call::Add(sighting(id, 0, [x, 500], [vx, 0]));
+        let call = Call::Add(report(id, 0, [x, 500], [vx, 0]));
         assert_eq!(ledger.call(&call, 0), Answer::Accepted(id));
     }
     for (method, cells, rounds) in [(0, 8, 0), (1, 4, 0), (2, 1, 2), (3, 1, 0)] {
@@ -71,7 +71,7 @@ fn p11_cells_and_rounds() {
 #[test]
 fn p12_a_float_is_placed_anew_when_its_phase_dies() {
     let mut ledger = open(0);
-    ledger.call(&Call::Add(sighting(1, 0, [100_000, 0], [100, 0])), 0);
+    ledger.call(&Call::Add(report(1, 0, [100_000, 0], [100, 0])), 0);
     ledger.call(&Call::Clock { t: 10_799 }, 0);
     assert_eq!((ledger.held[&1].phase, ledger.held[&1].cell), (0, 0));
     ledger.call(&Call::Clock { t: 10_800 }, 0);
@@ -81,7 +81,7 @@ fn p12_a_float_is_placed_anew_when_its_phase_dies() {
 #[test]
 fn edge_cells_have_no_end() {
     let mut ledger = open(0);
-    ledger.call(&Call::Add(sighting(1, 3_599, [100, 0], [500, 0])), 0);
+    ledger.call(&Call::Add(report(1, 3_599, [100, 0], [500, 0])), 0);
     let ask = ask(3, 3_599, [0, 0], [1_000, 1_000]);
     assert_eq!(listed(&mut ledger, ask), (vec![1], 1, 1, 0));
 }
@@ -95,14 +95,14 @@ fn missing_bounds() {
         assert_eq!(listed(&mut ledger, ask), (vec![], 0, 0, 0));
     }
     // A float at rest in the first cell, asked for in the last.
-    ledger.call(&Call::Add(sighting(1, 8_000, [0, 0], [0, 0])), 0);
+    ledger.call(&Call::Add(report(1, 8_000, [0, 0], [0, 0])), 0);
     for (method, cells, rounds) in [(0, 1, 0), (1, 0, 0), (2, 0, 1), (3, 0, 0)] {
         let ask = ask(method, 8_000, sea, sea);
         assert_eq!(listed(&mut ledger, ask), (vec![], cells, 0, rounds));
     }
 }
 
-const GOOD: Sighting = Sighting { id: 7, t: 100, at: [0, SEA], speed: [-TOP_SPEED, TOP_SPEED] };
+const GOOD: Report = Report { id: 7, t: 100, at: [0, SEA], speed: [-TOP_SPEED, TOP_SPEED] };
 
 /// Makes the call, which is refused with this number and value and changes
 /// neither the time nor how many are held.
@@ -121,25 +121,25 @@ fn refusals_by_time_and_numbers() {
     }
     for t in [-1, 99, LAST_TIME + 1] {
         refused(Call::Clock { t }, 3);
-        refused(Call::Add(Sighting { t, id: 0, ..GOOD }), 3);
-        refused(Call::Report(Sighting { t, id: 0, ..GOOD }), 3);
+        refused(Call::Add(Report { t, id: 0, ..GOOD }), 3);
+        refused(Call::Report(Report { t, id: 0, ..GOOD }), 3);
         refused(Call::Drop { id: 0, t }, 3);
     }
     for time in [-1, 7_301, LAST_TIME + 1] {
         refused(Call::Ask(ask(9, time, [0, 0], [0, 0])), 3);
     }
     for id in [-1, 0, LAST_ID + 1] {
-        refused(Call::Add(Sighting { id, ..GOOD }), 4);
-        refused(Call::Report(Sighting { id, ..GOOD }), 4);
+        refused(Call::Add(Report { id, ..GOOD }), 4);
+        refused(Call::Report(Report { id, ..GOOD }), 4);
         refused(Call::Drop { id, t: 5_000 }, 4);
     }
     for at in [[-1, 0], [0, -1], [SEA + 1, 0], [0, SEA + 1]] {
-        refused(Call::Add(Sighting { at, ..GOOD }), 4);
+        refused(Call::Add(Report { at, ..GOOD }), 4);
         refused(Call::Ask(ask(0, 100, at, [SEA; 2])), 4);
         refused(Call::Ask(ask(0, 100, [0; 2], at)), 4);
     }
     for speed in [[-501, 0], [0, -501], [501, 0], [0, 501]] {
-        refused(Call::Report(Sighting { speed, ..GOOD }), 4);
+        refused(Call::Report(Report { speed, ..GOOD }), 4);
     }
     for (method, low) in [(-1, [0; 2]), (4, [0; 2]), (0, [1, 0]), (0, [0, 1])] {
         refused(Call::Ask(ask(method, 100, low, [0; 2])), 4);
@@ -153,12 +153,12 @@ fn refusals_by_what_is_held() {
     refused(&mut ledger, Call::Drop { id: 7, t: 5_000 }, 0, 6, 0);
     let most = MOST_HELD as i64;
     for id in 1..=most {
-        let call = Call::Add(Sighting { id, ..GOOD });
+        let call = Call::Add(Report { id, ..GOOD });
         assert_eq!(ledger.call(&call, 0), Answer::Accepted(id));
     }
-    let late = Sighting { t: 9_000, ..GOOD };
+    let late = Report { t: 9_000, ..GOOD };
     refused(&mut ledger, Call::Add(late), 0, 5, 0);
-    refused(&mut ledger, Call::Add(Sighting { id: most + 1, ..late }), 0, 7, 0);
+    refused(&mut ledger, Call::Add(Report { id: most + 1, ..late }), 0, 7, 0);
     let all = Call::Ask(ask(2, 100, [0; 2], [SEA; 2]));
     for list in [0, 1, MOST_HELD - 1] {
         refused(&mut ledger, all, list, 8, most);
