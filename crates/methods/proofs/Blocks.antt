@@ -13,6 +13,7 @@ use Rattle.ints.proofs.Lists.{passing-in}
 use Rattle.grid.specs.Places.{OnGrid}
 use Rattle.grid.specs.Curve.{cell}
 use Rattle.grid.specs.declared.Cell.{Cell}
+use Rattle.grid.proofs.Places.{one-cell}
 use Rattle.methods.specs.Reach.{columnsOf, rowsOf, cellsOfRow, cellsOfRows, cellsOf, wholeGrid}
 use Rattle.methods.specs.declared.Block.{Block}
 
@@ -22,9 +23,6 @@ pub record InBlock (b : Block) (c : Cell) : Type 0 where
   pub to-column : c .column ≤ b .«last_column»
   pub from-row : b .«first_row» ≤ c .row
   pub to-row : c .row ≤ b .«last_row»
-
-same-cell : {c e : Cell} → c .column ≡ e .column → c .row ≡ e .row → c ≡ e
-same-cell p q = λ i. record { column = p i; row = q i }
 
 -- ---- membership
 
@@ -42,7 +40,7 @@ unfolding cellsOfRow
 row-has c row column zero e h k = absurd (omega arith)
 row-has c row column (suc n) e h k =
     dite (ℕ-discrete (c .column) column)
-    (λ p. List·Memᴰ·head (same-cell p e))
+    (λ p. List·Memᴰ·head (one-cell p e))
     (λ p. List·Memᴰ·tail (row-has c row (suc column) n e (omega arith) (omega arith)))
 
 in-rows : {c : Cell} (b : Block) (row n : ℕ) → List·Memᴰ c (cellsOfRows b row n) → (row ≤ c .row) × (c .row < row + n) × (b .«first_column» ≤ c .column) × (c .column < b .«first_column» + columnsOf b)
