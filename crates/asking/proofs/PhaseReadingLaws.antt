@@ -18,8 +18,8 @@ use Rattle.grid.specs.Curve.{curveNumber}
 use Rattle.grid.specs.Reports.{isTime, isPosition, xAt, yAt, cellAtTime, isListed}
 use Rattle.grid.specs.declared.Query.{Query}
 use Rattle.grid.specs.declared.Rect.{Rect}
-use Rattle.grid.proofs.Places.{cell-on}
-use Rattle.grid.proofs.Curve.{number-below}
+use Rattle.grid.proofs.PlacesLaws.{cell-on}
+use Rattle.grid.proofs.CurveLaws.{number-below}
 use Rattle.rows.specs.Phases.{phaseOf, referenceTime, isLive, livePhases, slotOf}
 use Rattle.rows.specs.Table.{rowAt}
 use Rattle.rows.proofs.PhasesLaws.{phase-is, live-range, same-slot, slot-on, listed-live}

@@ -11,7 +11,7 @@ use lib.IntN.{ℤ}
 use Rattle.grid.specs.Units.{cells}
 use Rattle.grid.specs.Curve.{cell, curveNumber, cellOfNumber}
 use Rattle.grid.specs.declared.Cell.{Cell}
-use Rattle.grid.proofs.Curve.{cell-on-grid, number-of-its-cell, number-below}
+use Rattle.grid.proofs.CurveLaws.{cell-on-grid, number-of-its-cell, number-below}
 use Rattle.rows.specs.Row.{emptyRow, joined, boundsOf}
 use Rattle.rows.specs.Table.{rowAt, slotRows}
 use Rattle.rows.specs.declared.Row.{Row}

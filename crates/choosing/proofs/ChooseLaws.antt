@@ -10,7 +10,7 @@ use native.Mathlib.Omega.{arith}
 use lib.IntN.{ℤ}
 use Rattle.ints.specs.Lists.{passing}
 use Rattle.grid.specs.declared.Rect.{Rect}
-use Rattle.grid.proofs.Places.{column-on}
+use Rattle.grid.proofs.PlacesLaws.{column-on}
 use Rattle.rows.specs.Row.{emptyRow, isEmpty, sameRow, validRow}
 use Rattle.rows.specs.declared.Row.{Row}
 use Rattle.rows.proofs.RowLaws.{bounds-valid}

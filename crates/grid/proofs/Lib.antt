@@ -1,6 +1,6 @@
 pub mod Every
 mod Tables
-pub mod Curve
-pub mod Places
+pub mod CurveLaws
+pub mod PlacesLaws
 pub mod Examples
-pub mod Reports
+pub mod ReportsLaws

@@ -1,16 +1,22 @@
-// The grid of document 01: the column and row of a position, the curve number of a cell, and where a float is after some seconds.
+// The values of the grid (cells, ranges, rectangles, queries, reports), the limits of document 01, and when a query lists a report.
 // Positions are centimetres, speeds centimetres per second, times seconds.
 ghost use mathlib.Core.Path.{_≡_};
 ghost use lib.IntN.{_-ℤ_};
-ghost use Rattle.grid.specs.Places.{positionAfter, columnOf, rowOf, cellOf};
-ghost use Rattle.grid.specs.Curve.{curveNumber, IsCurve, CanLookUp};
+ghost use Rattle.grid.specs.Places.{positionAfter};
 ghost use Rattle.grid.specs.Reports.{rectOf, xAt, yAt, cellAtTime, inRect, isListed};
-ghost use Rattle.grid.specs.Small.{SmallMove, SmallAxis, SmallReport};
+ghost use Rattle.grid.specs.Small.{SmallAxis, SmallReport};
 ghost use Rattle.ints.specs.Whole.{between};
 
+mod curve;
 mod curve_table;
+mod places;
 
-use curve_table::CURVE;
+pub use curve::curve_numbers;
+pub use curve::number_in;
+pub use places::cell_of;
+pub use places::column_of;
+pub use places::position_after;
+pub use places::row_of;
 
 // Columns on the grid, and rows.
 pub const SIDE: usize = 32;
@@ -66,60 +72,6 @@ pub struct Report {
     pub y: i32,
     pub vx: i32,
     pub vy: i32,
-}
-
-// Where a float is along one axis, `elapsed` seconds after it was at x.
-pub fn position_after(x: i64, v: i64, elapsed: i64) -> i64
-    requires { ⌜ SmallMove x v elapsed ⌝ }
-    ensures { λ r. ⌜ r ≡ positionAfter x v elapsed ⌝ }
-{
-    x + v * elapsed
-}
-
-pub fn column_of(x: i64) -> usize
-    ensures { λ r. ⌜ r ≡ columnOf x ⌝ }
-{
-    if x < 0 {
-        return 0;
-    }
-    let c = (x as usize) / CELL_SIZE;
-    if c < LAST { c } else { LAST }
-}
-
-pub fn row_of(y: i64) -> usize
-    ensures { λ r. ⌜ r ≡ rowOf y ⌝ }
-{
-    column_of(y)
-}
-
-pub fn cell_of(x: i64, y: i64) -> Cell
-    ensures { λ r. ⌜ r ≡ cellOf x y ⌝ }
-{
-    Cell {
-        column: column_of(x),
-        row: row_of(y),
-    }
-}
-
-fn wide(n: u16) -> usize
-    ensures { λ r. ⌜ r ≡ n ⌝ }
-{
-    n as usize
-}
-
-// The table of curve numbers, held by a pass over many cells: an index into a constant array writes the whole array out first.
-pub fn curve_numbers() -> [u16; CELLS]
-    ensures { λ r. ⌜ IsCurve r ⌝ }
-{
-    CURVE
-}
-
-// The curve number of a cell, by that table.
-pub fn number_in(numbers: &[u16; CELLS], c: Cell) -> usize
-    requires { ⌜ CanLookUp (now numbers) c ⌝ }
-    ensures { λ r. ⌜ r ≡ curveNumber c ⌝ }
-{
-    wide(numbers[c.row * SIDE + c.column])
 }
 
 // A number of 32 bits in 64.

@@ -19,7 +19,7 @@ use Rattle.grid.specs.Curve.{curveNumber}
 use Rattle.grid.specs.Reports.{isListed}
 use Rattle.grid.specs.declared.Cell.{Cell}
 use Rattle.grid.specs.declared.Query.{Query}
-use Rattle.grid.proofs.Curve.{number-below, cell-of-its-number}
+use Rattle.grid.proofs.CurveLaws.{number-below, cell-of-its-number}
 use Rattle.rows.specs.Phases.{phaseOf, isLive, livePhases, slotOf}
 use Rattle.rows.proofs.PhasesLaws.{listed-live}
 use Rattle.methods.specs.Methods.{Choice}

@@ -19,7 +19,7 @@ use Rattle.ints.proofs.Same.{same-is}
 use Rattle.grid.specs.Units.{capacity}
 use Rattle.grid.specs.Reports.{isTime, inRange, xAt, yAt}
 use Rattle.grid.specs.declared.Report.{Report}
-use Rattle.grid.proofs.Places.{cell-on}
+use Rattle.grid.proofs.PlacesLaws.{cell-on}
 use Rattle.rows.specs.Phases.{phaseOf, referenceTime, isLive}
 use Rattle.rows.proofs.PhasesLaws.{range-live, phases-grow}
 use Rattle.records.proofs.RangeLaws.{drift-in-range}

@@ -14,7 +14,7 @@ use Rattle.grid.specs.Units.{cells}
 use Rattle.grid.specs.Curve.{curveNumber}
 use Rattle.grid.specs.declared.Cell.{Cell}
 use Rattle.grid.specs.declared.Report.{Report}
-use Rattle.grid.proofs.Curve.{number-below}
+use Rattle.grid.proofs.CurveLaws.{number-below}
 use Rattle.rows.specs.Row.{driftOf, widened, boundsOf}
 use Rattle.rows.specs.Phases.{slots, phaseOf, isLive, slotOf}
 use Rattle.rows.specs.Table.{tableWords, rowAt, withNewlyLiveEmpty}

@@ -21,8 +21,8 @@ use Rattle.grid.specs.Curve.{curveNumber, cellOfNumber}
 use Rattle.grid.specs.Reports.{isTime, inRange, xAt, yAt}
 use Rattle.grid.specs.declared.Cell.{Cell}
 use Rattle.grid.specs.declared.Report.{Report}
-use Rattle.grid.proofs.Places.{same-cell, cell-same, cell-on}
-use Rattle.grid.proofs.Curve.{number-of-its-cell, cell-of-its-number}
+use Rattle.grid.proofs.PlacesLaws.{same-cell, cell-same, cell-on}
+use Rattle.grid.proofs.CurveLaws.{number-of-its-cell, cell-of-its-number}
 use Rattle.rows.specs.Row.{driftOf, emptyRow, rowOfDrift, joined, validRow, boundsOf}
 use Rattle.rows.specs.Phases.{phaseOf, referenceTime, isLive, slotOf, slots}
 use Rattle.rows.specs.Table.{tableWords, rowAt, withNewlyLiveEmpty}

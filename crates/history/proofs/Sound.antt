@@ -9,8 +9,8 @@ use Rattle.grid.specs.Places.{OnGrid}
 use Rattle.grid.specs.Curve.{curveNumber}
 use Rattle.grid.specs.Reports.{isTime, xAt, yAt}
 use Rattle.grid.specs.declared.Cell.{Cell}
-use Rattle.grid.proofs.Places.{cell-on}
-use Rattle.grid.proofs.Curve.{number-below, cell-of-its-number}
+use Rattle.grid.proofs.PlacesLaws.{cell-on}
+use Rattle.grid.proofs.CurveLaws.{number-below, cell-of-its-number}
 use Rattle.rows.specs.Row.{driftOf, holds}
 use Rattle.rows.specs.Phases.{referenceTime}
 use Rattle.rows.specs.Table.{rowAt}

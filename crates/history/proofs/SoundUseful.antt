@@ -20,8 +20,8 @@ use Rattle.grid.specs.declared.Cell.{Cell}
 use Rattle.grid.specs.Reports.{xAt, yAt, isListed}
 use Rattle.grid.specs.declared.Query.{Query}
 use Rattle.grid.specs.declared.Report.{Report}
-use Rattle.grid.proofs.Places.{cell-on}
-use Rattle.grid.proofs.Curve.{cell-of-its-number}
+use Rattle.grid.proofs.PlacesLaws.{cell-on}
+use Rattle.grid.proofs.CurveLaws.{cell-of-its-number}
 use Rattle.rows.specs.Phases.{referenceTime, phaseOf, isLive, livePhases, slotOf}
 use Rattle.rows.proofs.PhasesLaws.{listed-live}
 use Rattle.methods.specs.Aims.{aimIn}

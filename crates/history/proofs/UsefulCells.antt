@@ -17,8 +17,8 @@ use Rattle.grid.specs.Places.{sameCell}
 use Rattle.grid.specs.Reports.{isListed}
 use Rattle.grid.specs.declared.Cell.{Cell}
 use Rattle.grid.specs.declared.Query.{Query}
-use Rattle.grid.proofs.Places.{same-cell, cell-same}
-use Rattle.grid.proofs.Curve.{cell-of-its-number}
+use Rattle.grid.proofs.PlacesLaws.{same-cell, cell-same}
+use Rattle.grid.proofs.CurveLaws.{cell-of-its-number}
 use Rattle.rows.specs.Row.{driftOf, holds}
 use Rattle.rows.specs.Phases.{phaseOf, isLive}
 use Rattle.rows.proofs.RowLaws.{holds-within, holds-one, bounds-valid, bounds-hold}

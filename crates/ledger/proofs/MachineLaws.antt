@@ -17,7 +17,7 @@ use Rattle.ints.proofs.Truth.{and-true, and-left}
 use Rattle.ints.proofs.Lists.{false-of, map-in, map-has, map-append, passing-in, passing-has, passing-append, passing-none, passing-twice}
 use Rattle.grid.specs.Places.{sameCell}
 use Rattle.grid.specs.declared.Cell.{Cell}
-use Rattle.grid.proofs.Places.{cell-same}
+use Rattle.grid.proofs.PlacesLaws.{cell-same}
 use Rattle.rows.specs.Row.{rowOfDrift}
 use Rattle.rows.specs.Phases.{phaseOf, isLive}
 use Rattle.rows.specs.declared.Row.{Row}

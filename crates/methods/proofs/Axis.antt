@@ -15,7 +15,7 @@ use Rattle.ints.proofs.Least.{le-refl}
 use Rattle.ints.proofs.Truth.{same-truth, and-true, and-left, and-right}
 use Rattle.grid.specs.Units.{side, cellSize}
 use Rattle.grid.specs.Places.{End, Span, endless, at, endAt, columnOf, cellSpan, inSpan, notBelow, notAbove, positionAfter}
-use Rattle.grid.proofs.Places.{column-is}
+use Rattle.grid.proofs.PlacesLaws.{column-is}
 use Rattle.methods.specs.Reach.{expandedRange, movedSpan, forward, backward, meets}
 use Rattle.grid.specs.declared.Range.{Range}
 

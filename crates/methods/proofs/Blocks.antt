@@ -13,7 +13,7 @@ use Rattle.ints.proofs.Lists.{passing-in}
 use Rattle.grid.specs.Places.{OnGrid}
 use Rattle.grid.specs.Curve.{cell}
 use Rattle.grid.specs.declared.Cell.{Cell}
-use Rattle.grid.proofs.Places.{one-cell}
+use Rattle.grid.proofs.PlacesLaws.{one-cell}
 use Rattle.methods.specs.Reach.{columnsOf, rowsOf, cellsOfRow, cellsOfRows, cellsOf, wholeGrid}
 use Rattle.methods.specs.declared.Block.{Block}
 

@@ -12,7 +12,7 @@ use Rattle.grid.specs.Reports.{cellAtTime, isListed}
 use Rattle.grid.specs.declared.Cell.{Cell}
 use Rattle.grid.specs.declared.Query.{Query}
 use Rattle.grid.specs.declared.Report.{Report}
-use Rattle.grid.proofs.Places.{cell-on}
+use Rattle.grid.proofs.PlacesLaws.{cell-on}
 use Rattle.rows.specs.Row.{emptyRow, isEmpty, sameRow}
 use Rattle.rows.specs.Phases.{referenceTime}
 use Rattle.rows.specs.declared.Row.{Row}

@@ -14,7 +14,7 @@ use Rattle.grid.specs.Units.{cellSize, askBefore}
 use Rattle.grid.specs.Places.{cellSpan, OnGrid}
 use Rattle.grid.specs.Reports.{inRect}
 use Rattle.grid.specs.declared.Cell.{Cell}
-use Rattle.grid.proofs.Places.{in-no-other-cell}
+use Rattle.grid.proofs.PlacesLaws.{in-no-other-cell}
 use Rattle.rows.specs.Row.{isEmpty, holds}
 use Rattle.rows.proofs.RowLaws.{holds-not-empty, valid-ranged}
 use Rattle.methods.specs.Reach.{movedSpan, meets, movedCellMeets}

@@ -17,7 +17,7 @@ use Rattle.grid.specs.Units.{cells}
 use Rattle.grid.specs.Places.{OnGrid}
 use Rattle.grid.specs.Curve.{curveNumber, cellOfNumber}
 use Rattle.grid.specs.declared.Cell.{Cell}
-use Rattle.grid.proofs.Curve.{number-of-its-cell, number-below, cell-of-its-number, visits-once}
+use Rattle.grid.proofs.CurveLaws.{number-of-its-cell, number-below, cell-of-its-number, visits-once}
 use Rattle.methods.specs.Marks.{withCells, marksOf}
 use Rattle.methods.proofs.Blocks.{Once, none, one}
 

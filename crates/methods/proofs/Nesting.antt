@@ -12,7 +12,7 @@ use Rattle.ints.proofs.Truth.{and-left, and-right}
 use Rattle.grid.specs.Places.{OnGrid}
 use Rattle.grid.specs.declared.Cell.{Cell}
 use Rattle.grid.specs.declared.Rect.{Rect}
-use Rattle.grid.proofs.Places.{column-on}
+use Rattle.grid.proofs.PlacesLaws.{column-on}
 use Rattle.rows.specs.Row.{isEmpty, validRow}
 use Rattle.rows.specs.declared.Row.{Row}
 use Rattle.rows.proofs.RowLaws.{Within, joined-absorbs, AllValid, bounds-hold, bounds-grow, bounds-valid, bounds-none}

@@ -14,8 +14,8 @@ use Rattle.grid.specs.declared.Cell.{Cell}
 use Rattle.grid.specs.declared.Query.{Query}
 use Rattle.grid.specs.declared.Range.{Range}
 use Rattle.grid.specs.declared.Report.{Report}
-use Rattle.grid.proofs.Reports.{x-moved, y-moved}
-use Rattle.grid.proofs.Places.{in-own-cell, starts-by-column, ends-from-column}
+use Rattle.grid.proofs.ReportsLaws.{x-moved, y-moved}
+use Rattle.grid.proofs.PlacesLaws.{in-own-cell, starts-by-column, ends-from-column}
 use Rattle.rows.specs.Row.{joined, isEmpty, validRow}
 use Rattle.rows.specs.Phases.{referenceTime}
 use Rattle.rows.specs.declared.Row.{Row}

@@ -19,8 +19,8 @@ use Rattle.grid.specs.Units.{cells}
 use Rattle.grid.specs.Curve.{curveNumber}
 use Rattle.grid.specs.Reports.{xAt, yAt, cellAtTime}
 use Rattle.grid.specs.declared.Report.{Report}
-use Rattle.grid.proofs.Places.{cell-on}
-use Rattle.grid.proofs.Curve.{number-below}
+use Rattle.grid.proofs.PlacesLaws.{cell-on}
+use Rattle.grid.proofs.CurveLaws.{number-below}
 use Rattle.rows.specs.Phases.{phaseOf, referenceTime, isLive, livePhases, slotOf, slots}
 use Rattle.rows.proofs.PhasesLaws.{live-range, range-live, slot-on}
 use Rattle.records.specs.Order.{keyIn, slotOfKey, numberOfKey, phaseWithSlot, phaseOfKey, lastKey}

@@ -6,6 +6,7 @@ ghost use lib.ListN.{length};
 ghost use Rattle.records.specs.Records.{recordFrom, nowOf, heldOf};
 use grid::Report;
 
+pub mod order;
 pub mod soundness;
 
 // The most floats held.

@@ -2,21 +2,27 @@
 // is_sound takes slices of every length. Positions are centimetres, speeds centimetres per second, times seconds.
 ghost use mathlib.Core.Path.{_≡_};
 ghost use mathlib.Core.Bool.{_&&_, true};
-ghost use Prim.Native.Nat.{_≤_, _+_, _*_};
+ghost use Prim.Native.Nat.{_+_, _*_};
 ghost use lib.ListN.{length, drop};
-ghost use Rattle.ints.specs.Whole.{up, eqZ, between};
+ghost use Rattle.ints.specs.Whole.{up, between};
 ghost use Rattle.grid.specs.Reports.{isId, isPosition, isSpeed, inRange};
-ghost use Rattle.rows.specs.Phases.{phaseOf, livePhases};
 ghost use Rattle.rows.specs.Row.{driftOf};
 ghost use Rattle.records.specs.Records.{recordWords, storeWords, nowOf, heldOf, readRecords, recordsOf};
-ghost use Rattle.records.specs.Order.{keyIn, slotOfKey, numberOfKey, phaseWithSlot, phaseOfKey, precedes, isSorted};
+ghost use Rattle.records.specs.Order.{isSorted};
 ghost use Rattle.records.specs.Soundness.{allZero, keyIsRight, isSoundRecord, allSound, idsDistinct, isSoundHeader, isSoundStore, inOwnRow, speedsInRows, isSound};
-ghost use Rattle.records.specs.Needs.{CanKey, CanJudgeKey, CanJudge, CanJudgeAll, RangedRecords, CanFindRow, CanFindRows, HasHeader};
+ghost use Rattle.records.specs.Needs.{CanJudgeKey, CanJudge, CanJudgeAll, RangedRecords, CanFindRow, CanFindRows, HasHeader};
 use crate::CAPACITY;
 use crate::RECORD_WORDS;
 use crate::Record;
 use crate::STORE_WORDS;
 use crate::held_of;
+use crate::order::is_same;
+use crate::order::is_sorted;
+use crate::order::key_in;
+use crate::order::number_of_key;
+use crate::order::phase_at;
+use crate::order::phase_of_key;
+use crate::order::slot_of_key;
 use grid::LAST_ID;
 use grid::LAST_POSITION;
 use grid::LAST_TIME;
@@ -31,12 +37,6 @@ const LEAST_SPEED: i32 = -GREATEST_SPEED;
 
 // The most floats held, as a word.
 const MOST_HELD: i32 = CAPACITY as i32;
-
-pub fn is_same(a: i32, b: i32) -> bool
-    ensures { λ r. ⌜ r ≡ eqZ a b ⌝ }
-{
-    a <= b && b <= a
-}
 
 fn is_between(low: i32, high: i32, w: i32) -> bool
     ensures { λ r. ⌜ r ≡ between low high w ⌝ }
@@ -63,60 +63,6 @@ pub fn in_range(r: Report) -> bool
     is_between(1, LAST_ID, r.id) && (are_positions(r.x, r.y) && are_speeds(r.vx, r.vy))
 }
 
-// The slot of a key.
-pub fn slot_of_key(key: i32) -> usize
-    ensures { λ r. ⌜ r ≡ slotOfKey key ⌝ }
-{
-    if key < 0 {
-        return 0;
-    }
-    (key as usize) / grid::CELLS
-}
-
-// The curve number of a key.
-pub fn number_of_key(key: i32) -> usize
-    ensures { λ r. ⌜ r ≡ numberOfKey key ⌝ }
-{
-    if key < 0 {
-        return 0;
-    }
-    (key as usize) % grid::CELLS
-}
-
-// The live phase with a slot, the current phase being c; 0 where none has it.
-fn phase_with_slot(c: usize, slot: usize) -> usize
-    ensures { λ r. ⌜ r ≡ phaseWithSlot (livePhases c) slot ⌝ }
-{
-    if rows::SLOTS <= slot {
-        return 0;
-    }
-    let back = (c % rows::SLOTS + rows::SLOTS - slot) % rows::SLOTS;
-    if c < back {
-        return 0;
-    }
-    c - back
-}
-
-// The live phase of a key, the current phase being c.
-pub fn phase_of_key(c: usize, key: i32) -> usize
-    ensures { λ r. ⌜ r ≡ phaseOfKey c key ⌝ }
-{
-    phase_with_slot(c, slot_of_key(key))
-}
-
-// Whether a comes before b: by key, then id.
-pub fn precedes(a: Record, b: Record) -> bool
-    ensures { λ r. ⌜ r ≡ precedes a b ⌝ }
-{
-    if a.key < b.key {
-        return true;
-    }
-    if b.key < a.key {
-        return false;
-    }
-    a.report.id < b.report.id
-}
-
 // Whether all words are zero, in one pass.
 fn all_zero(words: &[i32]) -> bool
     ensures { λ r. ⌜ r ≡ allZero (now (words .entry)) ⌝ }
@@ -129,40 +75,6 @@ fn all_zero(words: &[i32]) -> bool
         i += 1;
     }
     true
-}
-
-// Whether the first n records are in order, in one pass.
-fn is_sorted(words: &[i32], n: usize) -> bool
-    requires { ⌜ recordWords * n ≤ length (now words) ⌝ }
-    ensures { λ r. ⌜ r ≡ isSorted (readRecords n (now (words .entry))) ⌝ }
-{
-    let mut i = 1;
-    while i < n {
-        let a = Record::read_from(words, RECORD_WORDS * (i - 1));
-        let b = Record::read_from(words, RECORD_WORDS * i);
-        if !precedes(a, b) {
-            return false;
-        }
-        i += 1;
-    }
-    true
-}
-
-// The phase of a time.
-pub fn phase_at(t: i32) -> usize
-    ensures { λ r. ⌜ r ≡ phaseOf t ⌝ }
-{
-    rows::phase_of(t as i64)
-}
-
-// The key of a report in phase p: the slot, and the curve number of the cell at the phase's reference time. 277,777 is the phase of the
-// last time. `numbers` is the grid's table of curve numbers.
-pub fn key_in(numbers: &[u16; grid::CELLS], p: usize, r: Report) -> i32
-    requires { ⌜ CanKey (now numbers) p r ⌝ }
-    ensures { λ k. ⌜ k ≡ keyIn p r ⌝ }
-{
-    let number = grid::number_in(numbers, r.cell_at(rows::reference_time(p)));
-    (rows::slot_of(p) * grid::CELLS + number) as i32
 }
 
 // Whether the key is right for a live phase not before that of t.

@@ -5,7 +5,7 @@ ghost use Rattle.records.specs.Words.{words};
 ghost use Rattle.words.specs.Words.{opened, stepped, placed, takenOut};
 ghost use Rattle.words.specs.Needs.{RightLengths, CanStep, CanMove, Moved, CanChange, CanPlace, CanReplace};
 use grid::Report;
-use records::soundness::phase_at;
+use records::order::phase_at;
 use store::changes::Step;
 
 // That time, no float held, every row empty, whatever the words were.

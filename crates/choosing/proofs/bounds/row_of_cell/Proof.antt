@@ -4,7 +4,7 @@ use mathlib.Core.Path.{ap, _∙_}
 use native.Mathlib.Omega.{arith}
 use denote.Ref.{now}
 use Rattle.rows.specs.Table.{rowAt}
-use Rattle.grid.proofs.Curve.{number-below}
+use Rattle.grid.proofs.CurveLaws.{number-below}
 use borrow.Author.Needs.{needs}
 use Rattle.choosing.proofs.bounds.row_of_cell.Statement.{statement}
 use Rattle.choosing.proofs.bounds.row_of_cell.Tie as tie

@@ -5,7 +5,7 @@ use Prim.Native.Nat.{ℕ}
 use native.Mathlib.Omega.{arith}
 use denote.Ref.{now}
 use lib.ListN.{set}
-use Rattle.grid.proofs.Curve.{number-below}
+use Rattle.grid.proofs.CurveLaws.{number-below}
 use Rattle.methods.specs.Marks.{withCells}
 use borrow.Author.Needs.{needs}
 use Rattle.choosing.proofs.mark.mark_cell.Statement.{statement}

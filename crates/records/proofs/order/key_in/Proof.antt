@@ -1,0 +1,81 @@
+-- `records::order::key_in` meets its contract: the report is small, the cell is on the grid, and slot and curve number make a key of the three slots.
+-- Assumes nothing.
+use mathlib.Core.Path.{_≡_, _∙_, ap, ap₂}
+use Prim.Native.Nat.{_+_, _*_, _<_}
+use native.Mathlib.Omega.{arith}
+use lib.IntN.{pos}
+use mir.Syntax.{w32, w64}
+use Rattle.ints.proofs.Machine.{back, got, held, fits}
+use Rattle.grid.specs.Units.{cells}
+use Rattle.grid.specs.Curve.{curveNumber}
+use Rattle.grid.specs.Reports.{xAt, yAt, cellAtTime}
+use Rattle.grid.proofs.PlacesLaws.{cell-on}
+use Rattle.rows.specs.Phases.{referenceTime}
+use Rattle.rows.proofs.PhasesLaws.{slot-on}
+use Rattle.records.specs.Order.{keyIn}
+use Rattle.records.proofs.RangeLaws.{small-report}
+use Rattle.records.proofs.KeyLaws.{cell-number-below}
+use borrow.Author.Needs.{needs}
+use Rattle.records.proofs.order.key_in.Statement.{statement}
+use Rattle.records.proofs.order.key_in.Tie as tie
+
+reference-time-requires : tie.Need-reference-time-requires
+reference-time-requires c κs = search needs
+
+at-reference : (c : tie.After-reference-time) → back w64 (c .reference-time .result) ≡ referenceTime (c .before .args .p)
+at-reference c = got w64 (c .reference-time .result) (referenceTime (c .before .args .p)) (search needs) (c .reference-time .ensures)
+
+cell-at-requires : tie.Need-cell-at-requires
+cell-at-requires c κs =
+    let a = c .before in
+    rw (at-reference c) (small-report (a .args .p) (a .args .r) (a .pre .not-late) (a .pre .in-range) (a .pre .sent))
+
+cell-is : (c : tie.After-cell-at) → c .cell-at .result ≡ cellAtTime (c .before .before .args .r) (referenceTime (c .before .before .args .p))
+cell-is c = c .cell-at .ensures ∙ ap (cellAtTime (c .before .before .args .r)) (at-reference (c .before))
+
+number-in-requires : tie.Need-number-in-requires
+number-in-requires c κs =
+    let s = c .before .before in
+    let a = s .args in
+    record { curve = s .pre .curve; on-grid = rw (cell-is c) (cell-on (xAt (a .r) (referenceTime (a .p))) (yAt (a .r) (referenceTime (a .p)))) }
+
+slot-of-requires : tie.Need-slot-of-requires
+slot-of-requires c κs = search needs
+
+module _ (c : tie.After-slot-of) where
+  number-is : c .before .number-in .result ≡ curveNumber (cellAtTime (c .before .before .before .before .args .r) (referenceTime (c .before .before .before .before .args .p)))
+  number-is = c .before .number-in .ensures ∙ ap curveNumber (cell-is (c .before .before))
+
+  key-small : c .slot-of .result * cells + c .before .number-in .result < 3072
+  key-small =
+      let a = c .before .before .before .before .args in
+      omega (arith, c .slot-of .ensures, number-is, slot-on (a .p), cell-number-below (a .r) (referenceTime (a .p)))
+
+mul-result : tie.Need-mul-result
+mul-result c = let h = key-small c in omega arith
+
+add-result : tie.Need-add-result
+add-result c = let h = key-small c in omega arith
+
+cast-result : tie.Need-cast-result
+cast-result c = let h = key-small c in fits (omega arith)
+
+returns : tie.Need-returns
+unfolding keyIn
+returns c =
+    let h = key-small c in
+    held w32 (pos (c .slot-of .result * cells + c .before .number-in .result)) (omega arith)
+    ∙ ap pos (ap₂ (λ s n. s * cells + n) (c .slot-of .ensures) (number-is c))
+
+pub key-in-spec : {M : Type 1} → statement M
+key-in-spec =
+    tie.close
+    (tie.spec
+    reference-time-requires
+    cell-at-requires
+    number-in-requires
+    slot-of-requires
+    mul-result
+    add-result
+    cast-result
+    returns)
