@@ -1,9 +1,10 @@
--- What the contracts of the private functions that change a store name. Nothing here is part of what the public functions promise.
+-- What the functions that change a store ask, one record for each way of asking, and what the private ones hand on. Nothing here is part of what the
+-- public functions promise.
 -- Assumes nothing.
 use mathlib.Core.Path.{_≡_}
 use mathlib.Core.Bool.{Bool, true}
 use mathlib.Core.List.{List, _++_}
-use Prim.Native.Nat.{ℕ, _+_, _-_, _*_, _≤_}
+use Prim.Native.Nat.{ℕ, _+_, _*_, _≤_, _<_}
 use lib.IntN.{ℤ}
 use lib.ListN.{length, take, drop}
 use Rattle.ints.specs.Whole.{eqZ}
@@ -14,7 +15,7 @@ use Rattle.rows.specs.Phases.{phaseOf}
 use Rattle.rows.specs.Table.{tableWords}
 use Rattle.records.specs.Records.{recordWords, heldOf, readRecords, recordsOf, wordsOfAll}
 use Rattle.records.specs.Order.{precedes}
-use Rattle.records.specs.Soundness.{allRanged}
+use Rattle.records.specs.Soundness.{isRanged, allRanged, IsStore}
 use Rattle.store.specs.Changes.{replaced}
 use Rattle.store.specs.declared.changes.Step.{Step}
 use Rattle.records.specs.declared.Record.{Record}
@@ -30,6 +31,26 @@ hasThat id a = eqZ (a .report .id) id
 
 abbrev pub indexOf : ℤ → List Record → ℕ
 indexOf id = firstOf (hasThat id)
+
+-- the word that counts the floats held, and a count for it
+pub record HeldAsked (s : List ℤ) (n : ℕ) : Type 0 where
+  pub count-word : 1 < length s
+  pub few : n ≤ capacity
+
+-- a store with room for one more record; the public function also asks that store and record are in range
+pub record PutAsked (s : List ℤ) : Type 0 where
+  pub store : HasWords s
+  pub room : length (recordsOf s) < capacity
+
+pub record InsertAsked (s : List ℤ) (r : Record) : Type 0 where
+  pub store : IsStore s
+  pub ranged : isRanged r ≡ true
+  pub room : length (recordsOf s) < capacity
+
+-- a record of a store, by how many stand before it
+pub record RemoveAsked (s : List ℤ) (i : ℕ) : Type 0 where
+  pub store : HasWords s
+  pub within : i < heldOf s
 
 -- a clock step between two times, with the phases in which they lie
 pub record IsStep (step : Step) : Type 0 where

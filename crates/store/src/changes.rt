@@ -2,10 +2,9 @@
 ghost use mathlib.Core.Path.{_≡_};
 ghost use mathlib.Core.Bool.{true};
 ghost use mathlib.Core.List.{_++_};
-ghost use Prim.Native.Nat.{_<_, _≤_, _+_, _-_, _*_};
+ghost use Prim.Native.Nat.{_≤_, _+_, _-_, _*_};
 ghost use lib.IntN.{pos};
 ghost use lib.ListN.{length, take, drop, replicate};
-ghost use Rattle.grid.specs.Units.{capacity};
 ghost use Rattle.grid.specs.Curve.{IsCurve};
 ghost use Rattle.grid.specs.Reports.{isTime, inRange};
 ghost use Rattle.ints.specs.Lists.{passing};
@@ -15,8 +14,7 @@ ghost use Rattle.records.specs.Records.{recordWords, nowOf, heldOf, readRecords
 ghost use Rattle.records.specs.Order.{precedes, hasId};
 ghost use Rattle.records.specs.Soundness.{isRanged, allRanged, IsStore};
 ghost use Rattle.store.specs.Changes.{inserted, insertedAll, removed, placedIn, stays, moves, replaced, steppedRecords, widenedBy, widenedByAll};
-ghost use Rattle.records.specs.Places.{HasWords};
-ghost use Rattle.store.specs.Needs.{placeOf, indexOf, IsStep, KeptFirst, Taken, PlaceAsked};
+ghost use Rattle.store.specs.Needs.{placeOf, indexOf, IsStep, KeptFirst, Taken, PutAsked, InsertAsked, RemoveAsked, PlaceAsked};
 use super::opening::clear;
 use super::sorting::put_all;
 use super::writing::set_held;
@@ -133,7 +131,7 @@ fn close_up(words: &mut [i32])
 
 // Puts a record at its place: the records after it move up.
 fn put(store: &mut [i32], r: Record)
-    requires { ⌜ (HasWords (now store)) × (length (recordsOf (now store)) < capacity) ⌝ }
+    requires { ⌜ PutAsked (now store) ⌝ }
     ensures { λ u. ⌜ now (store .exit) ≡ storeOf (nowOf (now (store .entry))) (inserted r (recordsOf (now (store .entry)))) ⌝ }
 {
     let n = held_of(store);
@@ -145,7 +143,7 @@ fn put(store: &mut [i32], r: Record)
 }
 
 pub fn insert(store: &mut [i32], r: Record)
-    requires { ⌜ (IsStore (now store)) × (isRanged r ≡ true) × (length (recordsOf (now store)) < capacity) ⌝ }
+    requires { ⌜ InsertAsked (now store) r ⌝ }
     ensures { λ u. ⌜ now (store .exit) ≡ storeOf (nowOf (now (store .entry))) (inserted r (recordsOf (now (store .entry)))) ⌝ }
 {
     put(store, r);
@@ -153,7 +151,7 @@ pub fn insert(store: &mut [i32], r: Record)
 
 // Takes the record with i before it out: the records after it move down.
 fn remove_at(store: &mut [i32], i: usize)
-    requires { ⌜ (HasWords (now store)) × (i < heldOf (now store)) ⌝ }
+    requires { ⌜ RemoveAsked (now store) i ⌝ }
     ensures { λ u. ⌜ now (store .exit) ≡ storeOf (nowOf (now (store .entry))) (take i (recordsOf (now (store .entry))) ++ drop (i + 1) (recordsOf (now (store .entry)))) ⌝ }
 {
     let n = held_of(store);

@@ -41,7 +41,7 @@ place-in-requires c κs =
 insert-requires : tie.Need-insert-requires
 insert-requires c κs =
     let a = c .before .before .before .before in
-    (a .pre .can-change .is-store, new-ranged (c .before), a .pre .room)
+    record { store = a .pre .can-change .is-store; ranged = new-ranged (c .before); room = a .pre .room }
 
 widen-requires : tie.Need-widen-requires
 widen-requires c κs =

@@ -82,7 +82,7 @@ set-held-requires c κs =
     let k = 7 * g .keep-live .result + 7 in
     let room = store-room _ (a .pre .0) in
     let long = same-len-mid {X = ℤ} k (7 * n .held-of .result + 7 - k) (g .keep-live .last .0) (l .clear .last .0) (l .clear .kept .0) in
-    (omega (arith, room, g .keep-live .kept .0, long), omega (arith, room, g .keep-live .ensures .0 .within))
+    record { count-word = omega (arith, room, g .keep-live .kept .0, long); few = omega (arith, room, g .keep-live .ensures .0 .within) }
 
 sub-result : tie.Need-sub-result
 sub-result c =
