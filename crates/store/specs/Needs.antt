@@ -10,10 +10,12 @@ use lib.ListN.{length, take, drop}
 use Rattle.ints.specs.Whole.{eqZ}
 use Rattle.ints.specs.Lists.{passing}
 use Rattle.grid.specs.Units.{capacity}
-use Rattle.grid.specs.Reports.{isTime}
-use Rattle.rows.specs.Phases.{phaseOf}
+use Rattle.grid.specs.Curve.{IsCurve}
+use Rattle.grid.specs.Reports.{isTime, inRange}
+use Rattle.grid.specs.declared.Report.{Report}
+use Rattle.rows.specs.Phases.{phaseOf, lastPhase}
 use Rattle.rows.specs.Table.{tableWords}
-use Rattle.records.specs.Records.{recordWords, heldOf, readRecords, recordsOf, wordsOfAll}
+use Rattle.records.specs.Records.{recordWords, heldOf, readRecords, recordsOf, wordsOfAll, floatWords}
 use Rattle.records.specs.Order.{precedes}
 use Rattle.records.specs.Soundness.{isRanged, allRanged, IsStore}
 use Rattle.store.specs.Changes.{replaced}
@@ -52,12 +54,33 @@ pub record RemoveAsked (s : List ℤ) (i : ℕ) : Type 0 where
   pub store : HasWords s
   pub within : i < heldOf s
 
+-- a phase and a report to place in it; the function that is lent the curve numbers asks that they are those of the curve
+pub record ReportAsked (p : ℕ) (r : Report) : Type 0 where
+  pub phase : p ≤ lastPhase
+  pub in-range : inRange r ≡ true
+  pub is-time : isTime (r .t) ≡ true
+
+pub record PlaceByAsked (numbers : List ℕ) (p : ℕ) (r : Report) : Type 0 where
+  pub curve : IsCurve numbers
+  pub report : ReportAsked p r
+
+-- two times to step between
+pub record AreTimes (now time : ℤ) : Type 0 where
+  pub is-now : isTime now ≡ true
+  pub is-time : isTime time ≡ true
+
 -- a clock step between two times, with the phases in which they lie
 pub record IsStep (step : Step) : Type 0 where
   pub is-now : isTime (step .now) ≡ true
   pub is-time : isTime (step .time) ≡ true
   pub from-is : step .from ≡ phaseOf (step .now)
   pub to-is : step .to ≡ phaseOf (step .time)
+
+-- a store to take the records that move out of, and words for all of them
+pub record TakeAsked (s : List ℤ) (step : Step) (dead : List ℤ) : Type 0 where
+  pub store : IsStore s
+  pub is-step : IsStep step
+  pub room : length dead ≡ floatWords
 
 -- the records that stay written one after the other behind record 0 of a store, the words from its last record on as they were; what lies between
 -- is left open
@@ -73,9 +96,26 @@ pub record Taken (p : ℕ) (moving : Record → Bool) (rs : List Record) (m : �
   pub inside : recordWords * m ≤ length dead
   pub ranged : allRanged (readRecords m dead) ≡ true
 
-pub record PlaceAsked (s t dead : List ℤ) (m : ℕ) : Type 0 where
+pub record PlaceAsked (s table dead : List ℤ) (m : ℕ) : Type 0 where
   pub store : HasWords s
-  pub table : length t ≡ tableWords
+  pub table-long : length table ≡ tableWords
   pub inside : recordWords * m ≤ length dead
   pub total : m + length (recordsOf s) ≤ capacity
   pub ranged : allRanged (readRecords m dead) ≡ true
+
+-- a table, and a record in range whose row is widened
+pub record WidenAsked (table : List ℤ) (r : Record) : Type 0 where
+  pub table-long : length table ≡ tableWords
+  pub ranged : isRanged r ≡ true
+
+-- a table, and m records in range
+pub record WidenAllAsked (table dead : List ℤ) (m : ℕ) : Type 0 where
+  pub table-long : length table ≡ tableWords
+  pub inside : recordWords * m ≤ length dead
+  pub ranged : allRanged (readRecords m dead) ≡ true
+
+-- a store and a table over which the clock steps
+pub record StepAsked (s table : List ℤ) (step : Step) : Type 0 where
+  pub store : IsStore s
+  pub table-long : length table ≡ tableWords
+  pub is-step : IsStep step

@@ -36,7 +36,7 @@ new-ranged c =
 place-in-requires : tie.Need-place-in-requires
 place-in-requires c κs =
     let a = c .before .before in
-    (rw (phase-is c) (last-phase (a .args .r .t) (a .pre .is-time)), a .pre .in-range, a .pre .is-time)
+    record { phase = rw (phase-is c) (last-phase (a .args .r .t) (a .pre .is-time)); in-range = a .pre .in-range; is-time = a .pre .is-time }
 
 insert-requires : tie.Need-insert-requires
 insert-requires c κs =
@@ -46,7 +46,7 @@ insert-requires c κs =
 widen-requires : tie.Need-widen-requires
 widen-requires c κs =
     let n = c .before .before .before .before in
-    (n .before .before .before .pre .can-change .whole-table, new-ranged n)
+    record { table-long = n .before .before .before .pre .can-change .whole-table; ranged = new-ranged n }
 
 same-length : tie.Need-same-length
 same-length c = search needs

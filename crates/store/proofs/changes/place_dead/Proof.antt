@@ -8,7 +8,9 @@ returns : tie.Need-returns
 returns c = (none-stored _ _ _ (c .before .pre .store) (c .if1 .taken), none-widened _ _ _ (c .if1 .taken))
 
 widen-all-requires : tie.Need-widen-all-requires
-widen-all-requires c κs = (c .before .before .pre .table, c .before .before .pre .inside, c .before .before .pre .ranged)
+widen-all-requires c κs =
+    let a = c .before .before in
+    record { table-long = a .pre .table-long; inside = a .pre .inside; ranged = a .pre .ranged }
 
 put-all-requires : tie.Need-put-all-requires
 put-all-requires c κs =

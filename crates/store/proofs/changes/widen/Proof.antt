@@ -29,13 +29,13 @@ number-is c = tested₁ w32 numberOfKey (c .number-of-key .result) (start c .arg
 drift-of-requires : tie.Need-drift-of-requires
 drift-of-requires c κs =
     let s = start c in
-    ranged-parts (s .args .r) (s .pre .1) .report
+    ranged-parts (s .args .r) (s .pre .ranged) .report
 
 widen-row-requires : tie.Need-widen-row-requires
 widen-row-requires c κs =
     let n = c .before in
     let s = start n in
-    (s .pre .0, omega (arith, slot-is (n .before .before), slot-below (s .args .r) (s .pre .1)), omega (arith, number-is n, number-of-key-below (s .args .r .key)))
+    (s .pre .table-long, omega (arith, slot-is (n .before .before), slot-below (s .args .r) (s .pre .ranged)), omega (arith, number-is n, number-of-key-below (s .args .r .key)))
 
 same-length : tie.Need-same-length
 same-length c = search needs
