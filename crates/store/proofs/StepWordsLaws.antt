@@ -411,11 +411,8 @@ module _ (s₀ s dead : List ℤ) (now time : ℤ) (m : ℕ) (es : s ≡ storeOf
       let b : m ≡ length (replaced (phaseOf time) (moves now time) (recordsOf s₀)) = sym (read-length m dead) ∙ ap length (k .dead-are) in
       let n : length (recordsOf s) ≡ length left = ap length (records-are (nowOf s₀) left s es) in
       record {
-        store = words-of (nowOf s₀) left s es (omega arith);
-        table-long = l;
-        inside = k .inside;
-        total = omega arith;
-        ranged = k .ranged;
+        put-all = record { store = words-of (nowOf s₀) left s es (omega arith); inside = k .inside; total = omega arith };
+        widen-all = record { table-long = l; inside = k .inside; ranged = k .ranged };
       }
 
   pub step-stored : (s′ : List ℤ) → s′ ≡ storeOf (nowOf s) (insertedAll (readRecords m dead) (recordsOf s)) → s′ ≡ storeOf (nowOf s₀) (steppedRecords now time (recordsOf s₀))

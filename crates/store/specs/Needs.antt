@@ -23,6 +23,8 @@ use Rattle.store.specs.declared.changes.Step.{Step}
 use Rattle.records.specs.declared.Record.{Record}
 use Rattle.records.specs.Places.{firstOf, HasWords}
 
+-- ---- how many records stand before another
+
 -- before the place of r
 abbrev pub placeOf : Record → List Record → ℕ
 placeOf r = firstOf (precedes r)
@@ -34,12 +36,14 @@ hasThat id a = eqZ (a .report .id) id
 abbrev pub indexOf : ℤ → List Record → ℕ
 indexOf id = firstOf (hasThat id)
 
+-- ---- records put in, taken out and placed, and the rows that they widen
+
 -- the word that counts the floats held, and a count for it
 pub record HeldAsked (s : List ℤ) (n : ℕ) : Type 0 where
   pub count-word : 1 < length s
   pub few : n ≤ capacity
 
--- a store with room for one more record; the public function also asks that store and record are in range
+-- a store with room for one more record; the public function also asks that the store is sorted, and store and record in range
 pub record PutAsked (s : List ℤ) : Type 0 where
   pub store : HasWords s
   pub room : length (recordsOf s) < capacity
@@ -63,6 +67,65 @@ pub record ReportAsked (p : ℕ) (r : Report) : Type 0 where
 pub record PlaceByAsked (numbers : List ℕ) (p : ℕ) (r : Report) : Type 0 where
   pub curve : IsCurve numbers
   pub report : ReportAsked p r
+
+-- a table, and a record in range whose row in it is widened
+pub record WidenAsked (table : List ℤ) (r : Record) : Type 0 where
+  pub table-long : length table ≡ tableWords
+  pub ranged : isRanged r ≡ true
+
+-- a table, and m records in range, each of whose rows is widened
+pub record WidenAllAsked (table dead : List ℤ) (m : ℕ) : Type 0 where
+  pub table-long : length table ≡ tableWords
+  pub inside : recordWords * m ≤ length dead
+  pub ranged : allRanged (readRecords m dead) ≡ true
+
+-- ---- sorting and merging
+
+-- what is left of n records of one list of words, i of them gone, and of m of another, j gone
+pub record NextAsked (a : List ℤ) (i n : ℕ) (b : List ℤ) (j m : ℕ) : Type 0 where
+  pub gone-first : i ≤ n
+  pub gone-second : j ≤ m
+  pub first : recordWords * n ≤ length a
+  pub second : recordWords * m ≤ length b
+
+-- n records of one list of words, m of another, and words for all of them
+pub record MergeAsked (a : List ℤ) (n : ℕ) (b : List ℤ) (m : ℕ) (out : List ℤ) : Type 0 where
+  pub first : recordWords * n ≤ length a
+  pub second : recordWords * m ≤ length b
+  pub room : length out ≡ recordWords * (n + m)
+  pub few : n + m ≤ capacity
+
+-- n records, and as many words for them
+pub record HalvesAsked (w : List ℤ) (half n : ℕ) (out : List ℤ) : Type 0 where
+  pub within : half ≤ n
+  pub long : length w ≡ recordWords * n
+  pub room : length out ≡ recordWords * n
+  pub few : n ≤ capacity
+
+-- n records, the same ones in both lists of words
+pub record SortAsked (w : List ℤ) (n : ℕ) (from : List ℤ) : Type 0 where
+  pub same : from ≡ w
+  pub long : length w ≡ recordWords * n
+  pub few : n ≤ capacity
+
+-- m records, words for them in order and words to work in
+pub record SortToAsked (dead : List ℤ) (m : ℕ) (sorted space : List ℤ) : Type 0 where
+  pub inside : recordWords * m ≤ length dead
+  pub few : m ≤ capacity
+  pub sorted-room : length sorted ≡ floatWords
+  pub space-room : length space ≡ floatWords
+
+-- m records to put into a store; merging them in also asks for words to work in
+pub record PutAllAsked (s dead : List ℤ) (m : ℕ) : Type 0 where
+  pub store : HasWords s
+  pub inside : recordWords * m ≤ length dead
+  pub total : m + length (recordsOf s) ≤ capacity
+
+pub record MergeInAsked (s b : List ℤ) (m : ℕ) (space : List ℤ) : Type 0 where
+  pub put-all : PutAllAsked s b m
+  pub room : length space ≡ floatWords
+
+-- ---- the clock step, from now to a time
 
 -- two times to step between
 pub record AreTimes (now time : ℤ) : Type 0 where
@@ -90,29 +153,16 @@ pub record KeptFirst (staying : Record → Bool) (s : List ℤ) (k : ℕ) (s′ 
   pub first : take (recordWords * k + recordWords) s′ ≡ take recordWords s ++ wordsOfAll (passing staying (recordsOf s))
   pub unused : drop (recordWords * heldOf s + recordWords) s′ ≡ drop (recordWords * heldOf s + recordWords) s
 
--- the records that move, placed in phase p and in range, and the place for them: what the two halves of a step hand over
+-- the records that move, placed in phase p and in range: what the first half of a step hands over to the second
 pub record Taken (p : ℕ) (moving : Record → Bool) (rs : List Record) (m : ℕ) (dead : List ℤ) : Type 0 where
   pub dead-are : readRecords m dead ≡ replaced p moving rs
   pub inside : recordWords * m ≤ length dead
   pub ranged : allRanged (readRecords m dead) ≡ true
 
+-- m records to put into a store, and to widen a table's rows by
 pub record PlaceAsked (s table dead : List ℤ) (m : ℕ) : Type 0 where
-  pub store : HasWords s
-  pub table-long : length table ≡ tableWords
-  pub inside : recordWords * m ≤ length dead
-  pub total : m + length (recordsOf s) ≤ capacity
-  pub ranged : allRanged (readRecords m dead) ≡ true
-
--- a table, and a record in range whose row is widened
-pub record WidenAsked (table : List ℤ) (r : Record) : Type 0 where
-  pub table-long : length table ≡ tableWords
-  pub ranged : isRanged r ≡ true
-
--- a table, and m records in range
-pub record WidenAllAsked (table dead : List ℤ) (m : ℕ) : Type 0 where
-  pub table-long : length table ≡ tableWords
-  pub inside : recordWords * m ≤ length dead
-  pub ranged : allRanged (readRecords m dead) ≡ true
+  pub put-all : PutAllAsked s dead m
+  pub widen-all : WidenAllAsked table dead m
 
 -- a store and a table over which the clock steps
 pub record StepAsked (s table : List ℤ) (step : Step) : Type 0 where
