@@ -337,23 +337,23 @@ taken-out s₀ s ys s′ staying n k q en f ls ey es =
 
 -- ---- records put in, and their rows widened
 
-table-length : (t : List ℤ) (r : Record) → length (widenedBy t r) ≡ length t
+table-length : (table : List ℤ) (r : Record) → length (widenedBy table r) ≡ length table
 unfolding withRow
-table-length t r = simp length-set
+table-length table r = simp length-set
 
 -- after j records
-pub record Widen (t₀ dead : List ℤ) (m : ℕ) (t : List ℤ) (j : ℕ) : Type 0 where
+pub record Widen (table₀ dead : List ℤ) (m : ℕ) (table : List ℤ) (j : ℕ) : Type 0 where
   pub inside : j ≤ m
-  pub table : length t ≡ tableWords
-  pub table-is : widenedByAll t₀ (readRecords m dead) ≡ widenedByAll t (readRecords (m - j) (drop (recordWords * j) dead))
+  pub table-long : length table ≡ tableWords
+  pub table-is : widenedByAll table₀ (readRecords m dead) ≡ widenedByAll table (readRecords (m - j) (drop (recordWords * j) dead))
   pub ranged : allRanged (readRecords (m - j) (drop (recordWords * j) dead)) ≡ true
 
-pub widen-start : (t dead : List ℤ) (m : ℕ) → length t ≡ tableWords → allRanged (readRecords m dead) ≡ true → Widen t dead m t 0
-widen-start t dead m l r =
+pub widen-start : (table dead : List ℤ) (m : ℕ) → length table ≡ tableWords → allRanged (readRecords m dead) ≡ true → Widen table dead m table 0
+widen-start table dead m l r =
     let e : m - 0 ≡ m = omega arith in
-    record { inside = omega arith; table = l; table-is = rw e; ranged = rw e r }
+    record { inside = omega arith; table-long = l; table-is = rw e; ranged = rw e r }
 
-module _ (t₀ dead : List ℤ) (m : ℕ) (t : List ℤ) (j : ℕ) (p : Widen t₀ dead m t j) (h : j < m) (r : Record) (er : r ≡ recordFrom dead (recordWords * j)) where
+module _ (table₀ dead : List ℤ) (m : ℕ) (table : List ℤ) (j : ℕ) (p : Widen table₀ dead m table j) (h : j < m) (r : Record) (er : r ≡ recordFrom dead (recordWords * j)) where
   rest-here : readRecords (m - j) (drop (recordWords * j) dead) ≡ r ∷ readRecords (m - (j + 1)) (drop (recordWords * (j + 1)) dead)
   rest-here = rest-at m j dead h ∙ ap (λ (a : Record). a ∷ readRecords (m - (j + 1)) (drop (recordWords * (j + 1)) dead)) (sym er)
 
@@ -364,14 +364,14 @@ module _ (t₀ dead : List ℤ) (m : ℕ) (t : List ℤ) (j : ℕ) (p : Widen t�
   unfolding every
   widen-in-range = and-left (isRanged r) (allRanged (readRecords (m - (j + 1)) (drop (recordWords * (j + 1)) dead))) rest-ranged
 
-  pub widen-more : (t′ : List ℤ) → t′ ≡ widenedBy t r → Widen t₀ dead m t′ (j + 1)
+  pub widen-more : (table′ : List ℤ) → table′ ≡ widenedBy table r → Widen table₀ dead m table′ (j + 1)
   unfolding widenedByAll every
-  widen-more t′ et =
+  widen-more table′ et =
       let rest = readRecords (m - (j + 1)) (drop (recordWords * (j + 1)) dead) in
       record {
         inside = omega arith;
-        table = ap length et ∙ table-length t r ∙ p .table;
-        table-is = p .table-is ∙ ap (widenedByAll t) rest-here ∙ ap (λ (q : List ℤ). widenedByAll q rest) (sym et);
+        table-long = ap length et ∙ table-length table r ∙ p .table-long;
+        table-is = p .table-is ∙ ap (widenedByAll table) rest-here ∙ ap (λ (q : List ℤ). widenedByAll q rest) (sym et);
         ranged = and-right (isRanged r) (allRanged rest) rest-ranged;
       }
 
@@ -379,22 +379,22 @@ inserted-none : (rs : List Record) → insertedAll [] rs ≡ rs
 unfolding insertedAll
 inserted-none rs = refl
 
-speeds-none : (t : List ℤ) → widenedByAll t [] ≡ t
+speeds-none : (table : List ℤ) → widenedByAll table [] ≡ table
 unfolding widenedByAll
-speeds-none t = refl
+speeds-none table = refl
 
-pub widen-end : (t₀ dead : List ℤ) (m : ℕ) (t : List ℤ) (j : ℕ) → Widen t₀ dead m t j → m ≤ j → t ≡ widenedByAll t₀ (readRecords m dead)
-widen-end t₀ dead m t j p h =
+pub widen-end : (table₀ dead : List ℤ) (m : ℕ) (table : List ℤ) (j : ℕ) → Widen table₀ dead m table j → m ≤ j → table ≡ widenedByAll table₀ (readRecords m dead)
+widen-end table₀ dead m table j p h =
     let none : readRecords (m - j) (drop (recordWords * j) dead) ≡ [] = no-records (m - j) (drop (recordWords * j) dead) (omega arith) in
-    sym (p .table-is ∙ ap (widenedByAll t) none ∙ speeds-none t)
+    sym (p .table-is ∙ ap (widenedByAll table) none ∙ speeds-none table)
 
 -- nothing to place
 pub none-stored : (s dead : List ℤ) (m : ℕ) → HasWords s → m ≡ 0 → s ≡ storeOf (nowOf s) (insertedAll (readRecords m dead) (recordsOf s))
 none-stored s dead m q e =
     q .words ∙ ap (storeOf (nowOf s)) (sym (ap (λ (l : List Record). insertedAll l (recordsOf s)) (no-records m dead e) ∙ inserted-none (recordsOf s)))
 
-pub none-widened : (t dead : List ℤ) (m : ℕ) → m ≡ 0 → t ≡ widenedByAll t (readRecords m dead)
-none-widened t dead m e = sym (ap (widenedByAll t) (no-records m dead e) ∙ speeds-none t)
+pub none-widened : (table dead : List ℤ) (m : ℕ) → m ≡ 0 → table ≡ widenedByAll table (readRecords m dead)
+none-widened table dead m e = sym (ap (widenedByAll table) (no-records m dead e) ∙ speeds-none table)
 
 -- ---- the two halves of a step
 
@@ -403,19 +403,16 @@ module _ (s₀ s dead : List ℤ) (now time : ℤ) (m : ℕ) (es : s ≡ storeOf
   left : List Record
   left = passing (stays now time) (recordsOf s₀)
 
-  pub step-asks : (t : List ℤ) → IsStore s₀ → length t ≡ tableWords → PlaceAsked s t dead m
+  pub step-asks : (table : List ℤ) → IsStore s₀ → length table ≡ tableWords → PlaceAsked s table dead m
   unfolding left
-  step-asks t q l =
+  step-asks table q l =
       let f = q .few in
       let a = halves-few now time (recordsOf s₀) in
       let b : m ≡ length (replaced (phaseOf time) (moves now time) (recordsOf s₀)) = sym (read-length m dead) ∙ ap length (k .dead-are) in
       let n : length (recordsOf s) ≡ length left = ap length (records-are (nowOf s₀) left s es) in
       record {
-        store = words-of (nowOf s₀) left s es (omega arith);
-        table = l;
-        inside = k .inside;
-        total = omega arith;
-        ranged = k .ranged;
+        put-all = record { store = words-of (nowOf s₀) left s es (omega arith); inside = k .inside; total = omega arith };
+        widen-all = record { table-long = l; inside = k .inside; ranged = k .ranged };
       }
 
   pub step-stored : (s′ : List ℤ) → s′ ≡ storeOf (nowOf s) (insertedAll (readRecords m dead) (recordsOf s)) → s′ ≡ storeOf (nowOf s₀) (steppedRecords now time (recordsOf s₀))
@@ -423,6 +420,6 @@ module _ (s₀ s dead : List ℤ) (now time : ℤ) (m : ℕ) (es : s ≡ storeOf
   step-stored s′ e =
       e ∙ (λ i. storeOf (now-is (nowOf s₀) left s es i) (insertedAll (k .dead-are i) (records-are (nowOf s₀) left s es i)))
 
-pub step-widened : (t t′ dead : List ℤ) (to : ℕ) (moving : Record → Bool) (m : ℕ) (rs : List Record) → Taken to moving rs m dead
-    → t′ ≡ widenedByAll t (readRecords m dead) → t′ ≡ widenedByAll t (replaced to moving rs)
-step-widened t t′ dead to moving m rs k e = e ∙ ap (widenedByAll t) (k .dead-are)
+pub step-widened : (table table′ dead : List ℤ) (to : ℕ) (moving : Record → Bool) (m : ℕ) (rs : List Record) → Taken to moving rs m dead
+    → table′ ≡ widenedByAll table (readRecords m dead) → table′ ≡ widenedByAll table (replaced to moving rs)
+step-widened table table′ dead to moving m rs k e = e ∙ ap (widenedByAll table) (k .dead-are)

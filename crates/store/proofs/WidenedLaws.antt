@@ -48,66 +48,66 @@ pub record Placeable (r : Record) : Type 0 where
   pub slot-on : slotOfKey (r .key) < slots
   pub in-range : DriftInRange (driftOf (r .report))
 
-pub with-speeds-length : (t : List ℤ) (rs : List Record) → length (widenedByAll t rs) ≡ length t
+pub with-speeds-length : (table : List ℤ) (rs : List Record) → length (widenedByAll table rs) ≡ length table
 unfolding widenedByAll
-with-speeds-length t [] = refl
-with-speeds-length t (r ∷ rs) =
+with-speeds-length table [] = refl
+with-speeds-length table (r ∷ rs) =
     let slot = slotOfKey (r .key) in
     let number = numberOfKey (r .key) in
-    with-speeds-length (withDrift t slot number (driftOf (r .report))) rs
-    ∙ length-with-row t slot number (widened (rowAt t slot number) (driftOf (r .report)))
+    with-speeds-length (withDrift table slot number (driftOf (r .report))) rs
+    ∙ length-with-row table slot number (widened (rowAt table slot number) (driftOf (r .report)))
 
 -- ---- one record
 
-module _ (t : List ℤ) (r : Record) (slot number : ℕ) (sized : length t ≡ tableWords) (placeable : Placeable r) (here : number < cells) where
+module _ (table : List ℤ) (r : Record) (slot number : ℕ) (sized : length table ≡ tableWords) (placeable : Placeable r) (here : number < cells) where
   after-one : List ℤ
-  after-one = widenedBy t r
+  after-one = widenedBy table r
 
-  row-after : (b : Bool) → liesAt slot number r ≡ b → rowAt after-one slot number ≡ cond b (widened (rowAt t slot number) (driftOf (r .report))) (rowAt t slot number)
+  row-after : (b : Bool) → liesAt slot number r ≡ b → rowAt after-one slot number ≡ cond b (widened (rowAt table slot number) (driftOf (r .report))) (rowAt table slot number)
   unfolding after-one
   row-after true e =
       let s = eqb-true (slotOfKey (r .key)) slot (and-left _ (eqb (numberOfKey (r .key)) number) e) in
       let n = eqb-true (numberOfKey (r .key)) number (and-right (eqb (slotOfKey (r .key)) slot) _ e) in
-      let new = widened (rowAt t (slotOfKey (r .key)) (numberOfKey (r .key))) (driftOf (r .report)) in
+      let new = widened (rowAt table (slotOfKey (r .key)) (numberOfKey (r .key))) (driftOf (r .report)) in
       ap (rowAt after-one slot) (sym n)
       ∙ ap (λ (x : ℕ). rowAt after-one x (numberOfKey (r .key))) (sym s)
-      ∙ row-written t (slotOfKey (r .key)) (numberOfKey (r .key)) new sized (placeable .slot-on) (omega arith)
-      ∙ (λ i. widened (rowAt t (s i) (n i)) (driftOf (r .report)))
+      ∙ row-written table (slotOfKey (r .key)) (numberOfKey (r .key)) new sized (placeable .slot-on) (omega arith)
+      ∙ (λ i. widened (rowAt table (s i) (n i)) (driftOf (r .report)))
   row-after false e =
-      row-other t (slotOfKey (r .key)) (numberOfKey (r .key)) (widened (rowAt t (slotOfKey (r .key)) (numberOfKey (r .key))) (driftOf (r .report))) slot number (omega arith) here
+      row-other table (slotOfKey (r .key)) (numberOfKey (r .key)) (widened (rowAt table (slotOfKey (r .key)) (numberOfKey (r .key))) (driftOf (r .report))) slot number (omega arith) here
       (apart (eqb (slotOfKey (r .key)) slot) refl e)
     where
       apart : (b : Bool) → eqb (slotOfKey (r .key)) slot ≡ b → b && eqb (numberOfKey (r .key)) number ≡ false → (slot ≢ slotOfKey (r .key)) ⊎ (number ≢ numberOfKey (r .key))
       apart true f g = inr (λ same. eqb-false (numberOfKey (r .key)) number g (sym same))
       apart false f g = inl (λ same. eqb-false (slotOfKey (r .key)) slot f (sym same))
 
-  valid-after : validRow (rowAt t slot number) ≡ true → validRow (rowAt after-one slot number) ≡ true
+  valid-after : validRow (rowAt table slot number) ≡ true → validRow (rowAt after-one slot number) ≡ true
   valid-after v = go (liesAt slot number r) refl
     where
       go : (b : Bool) → liesAt slot number r ≡ b → validRow (rowAt after-one slot number) ≡ true
       go true e =
-          ap validRow (row-after true e) ∙ widened-valid (rowAt t slot number) (driftOf (r .report)) v (placeable .in-range) .0
+          ap validRow (row-after true e) ∙ widened-valid (rowAt table slot number) (driftOf (r .report)) v (placeable .in-range) .0
       go false e = ap validRow (row-after false e) ∙ v
 
 -- ---- some records
 
 pub row-with-speeds :
-    (t : List ℤ) (rs : List Record) (slot number : ℕ)
-    → length t ≡ tableWords
+    (table : List ℤ) (rs : List Record) (slot number : ℕ)
+    → length table ≡ tableWords
     → ((r : Record) → List·Memᴰ r rs → Placeable r)
     → number < cells
-    → validRow (rowAt t slot number) ≡ true
-    → rowAt (widenedByAll t rs) slot number ≡ joined (rowAt t slot number) (boundsOf (speedsAt slot number rs))
+    → validRow (rowAt table slot number) ≡ true
+    → rowAt (widenedByAll table rs) slot number ≡ joined (rowAt table slot number) (boundsOf (speedsAt slot number rs))
 unfolding widenedByAll speedsAt passing boundsOf after-one
-row-with-speeds t [] slot number sized each h v = sym (joined-empty-right (rowAt t slot number) v)
-row-with-speeds t (r ∷ rs) slot number sized each h v =
-    row-with-speeds (after-one t r slot number sized p h) rs slot number
-    (length-with-row t (slotOfKey (r .key)) (numberOfKey (r .key)) (widened (rowAt t (slotOfKey (r .key)) (numberOfKey (r .key))) (driftOf (r .report))) ∙ sized)
+row-with-speeds table [] slot number sized each h v = sym (joined-empty-right (rowAt table slot number) v)
+row-with-speeds table (r ∷ rs) slot number sized each h v =
+    row-with-speeds (after-one table r slot number sized p h) rs slot number
+    (length-with-row table (slotOfKey (r .key)) (numberOfKey (r .key)) (widened (rowAt table (slotOfKey (r .key)) (numberOfKey (r .key))) (driftOf (r .report))) ∙ sized)
     (λ q m. each q (List·Memᴰ·tail m))
     h
-    (valid-after t r slot number sized p h v)
+    (valid-after table r slot number sized p h v)
     ∙ go (liesAt slot number r) refl
-    ∙ ap (λ (rows : List Row). joined (rowAt t slot number) (boundsOf rows)) (sym (speeds-first slot number r rs))
+    ∙ ap (λ (rows : List Row). joined (rowAt table slot number) (boundsOf rows)) (sym (speeds-first slot number r rs))
   where
     p : Placeable r
     p = each r (List·Memᴰ·head refl)
@@ -118,11 +118,11 @@ row-with-speeds t (r ∷ rs) slot number sized each h v =
     go :
         (b : Bool)
         → liesAt slot number r ≡ b
-        → joined (rowAt (after-one t r slot number sized p h) slot number) (boundsOf rest) ≡ joined (rowAt t slot number) (boundsOf (cond b (ownRow r ∷ rest) rest))
+        → joined (rowAt (after-one table r slot number sized p h) slot number) (boundsOf rest) ≡ joined (rowAt table slot number) (boundsOf (cond b (ownRow r ∷ rest) rest))
     go true e =
-        ap (λ (x : Row). joined x (boundsOf rest)) (row-after t r slot number sized p h true e)
-        ∙ joined-assoc (rowAt t slot number) (ownRow r) (boundsOf rest)
-    go false e = ap (λ (x : Row). joined x (boundsOf rest)) (row-after t r slot number sized p h false e)
+        ap (λ (x : Row). joined x (boundsOf rest)) (row-after table r slot number sized p h true e)
+        ∙ joined-assoc (rowAt table slot number) (ownRow r) (boundsOf rest)
+    go false e = ap (λ (x : Row). joined x (boundsOf rest)) (row-after table r slot number sized p h false e)
 
 -- ---- the records that a clock step places anew
 

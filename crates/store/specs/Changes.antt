@@ -52,8 +52,8 @@ steppedRecords now time rs =
 
 -- the table with the row of a record's cell widened by its speeds
 abbrev pub widenedBy : List ℤ → Record → List ℤ
-widenedBy t r = withDrift t (slotOfKey (r .key)) (numberOfKey (r .key)) (driftOf (r .report))
+widenedBy table r = withDrift table (slotOfKey (r .key)) (numberOfKey (r .key)) (driftOf (r .report))
 
 unfoldable pub widenedByAll : List ℤ → List Record → List ℤ
-widenedByAll t [] = t
-widenedByAll t (r ∷ rs) = widenedByAll (widenedBy t r) rs
+widenedByAll table [] = table
+widenedByAll table (r ∷ rs) = widenedByAll (widenedBy table r) rs

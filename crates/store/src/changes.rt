@@ -1,22 +1,18 @@
 // The changes of a store: a record put at its place, the record of an id taken out, the time set. Each keeps the words of the store in order.
 ghost use mathlib.Core.Path.{_≡_};
-ghost use mathlib.Core.Bool.{true};
 ghost use mathlib.Core.List.{_++_};
-ghost use Prim.Native.Nat.{_<_, _≤_, _+_, _-_, _*_};
+ghost use Prim.Native.Nat.{_≤_, _+_, _-_, _*_};
 ghost use lib.IntN.{pos};
 ghost use lib.ListN.{length, take, drop, replicate};
-ghost use Rattle.grid.specs.Units.{capacity};
-ghost use Rattle.grid.specs.Curve.{IsCurve};
-ghost use Rattle.grid.specs.Reports.{isTime, inRange};
 ghost use Rattle.ints.specs.Lists.{passing};
-ghost use Rattle.rows.specs.Phases.{phaseOf, lastPhase};
-ghost use Rattle.rows.specs.Table.{tableWords};
-ghost use Rattle.records.specs.Records.{recordWords, nowOf, heldOf, readRecords, recordsOf, wordsOf, storeOf, floatWords};
-ghost use Rattle.records.specs.Order.{precedes, hasId};
-ghost use Rattle.records.specs.Soundness.{isRanged, allRanged, IsStore};
+ghost use Rattle.rows.specs.Phases.{phaseOf};
+ghost use Rattle.records.specs.Records.{recordWords, nowOf, heldOf, readRecords, recordsOf, wordsOf, storeOf};
+ghost use Rattle.records.specs.Order.{hasId};
+ghost use Rattle.records.specs.Soundness.{IsStore};
+ghost use Rattle.records.specs.Needs.{CanFindRow};
 ghost use Rattle.store.specs.Changes.{inserted, insertedAll, removed, placedIn, stays, moves, replaced, steppedRecords, widenedBy, widenedByAll};
-ghost use Rattle.records.specs.Places.{HasWords};
-ghost use Rattle.store.specs.Needs.{placeOf, indexOf, IsStep, KeptFirst, Taken, PlaceAsked};
+ghost use Rattle.store.specs.Needs.{placeOf, indexOf, PutAsked, InsertAsked, RemoveAsked, ReportAsked, PlaceByAsked, AreTimes, IsStep};
+ghost use Rattle.store.specs.Needs.{TakeAsked, KeptFirst, Taken, PlaceAsked, WidenAllAsked, StepAsked};
 use super::opening::clear;
 use super::sorting::put_all;
 use super::writing::set_held;
@@ -133,7 +129,7 @@ fn close_up(words: &mut [i32])
 
 // Puts a record at its place: the records after it move up.
 fn put(store: &mut [i32], r: Record)
-    requires { ⌜ (HasWords (now store)) × (length (recordsOf (now store)) < capacity) ⌝ }
+    requires { ⌜ PutAsked (now store) ⌝ }
     ensures { λ u. ⌜ now (store .exit) ≡ storeOf (nowOf (now (store .entry))) (inserted r (recordsOf (now (store .entry)))) ⌝ }
 {
     let n = held_of(store);
@@ -145,7 +141,7 @@ fn put(store: &mut [i32], r: Record)
 }
 
 pub fn insert(store: &mut [i32], r: Record)
-    requires { ⌜ (IsStore (now store)) × (isRanged r ≡ true) × (length (recordsOf (now store)) < capacity) ⌝ }
+    requires { ⌜ InsertAsked (now store) r ⌝ }
     ensures { λ u. ⌜ now (store .exit) ≡ storeOf (nowOf (now (store .entry))) (inserted r (recordsOf (now (store .entry)))) ⌝ }
 {
     put(store, r);
@@ -153,7 +149,7 @@ pub fn insert(store: &mut [i32], r: Record)
 
 // Takes the record with i before it out: the records after it move down.
 fn remove_at(store: &mut [i32], i: usize)
-    requires { ⌜ (HasWords (now store)) × (i < heldOf (now store)) ⌝ }
+    requires { ⌜ RemoveAsked (now store) i ⌝ }
     ensures { λ u. ⌜ now (store .exit) ≡ storeOf (nowOf (now (store .entry))) (take i (recordsOf (now (store .entry))) ++ drop (i + 1) (recordsOf (now (store .entry)))) ⌝ }
 {
     let n = held_of(store);
@@ -192,7 +188,7 @@ pub struct Step {
 
 impl Step {
     pub fn between(now: i64, time: i64) -> Step
-        requires { ⌜ (isTime now ≡ true) × (isTime time ≡ true) ⌝ }
+        requires { ⌜ AreTimes now time ⌝ }
         ensures { λ s. ⌜ (s .now ≡ now) × (s .time ≡ time) × (IsStep s) ⌝ }
     {
         Step {
@@ -214,7 +210,7 @@ fn stays(step: Step, r: Record) -> bool
 
 // A report placed in phase p. `numbers` is the grid's table of curve numbers.
 fn place_by(numbers: &[u16; grid::CELLS], p: usize, r: Report) -> Record
-    requires { ⌜ (IsCurve (now numbers)) × (p ≤ lastPhase) × (inRange r ≡ true) × (isTime (r .t) ≡ true) ⌝ }
+    requires { ⌜ PlaceByAsked (now numbers) p r ⌝ }
     ensures { λ a. ⌜ a ≡ placedIn p r ⌝ }
 {
     Record {
@@ -224,7 +220,7 @@ fn place_by(numbers: &[u16; grid::CELLS], p: usize, r: Report) -> Record
 }
 
 pub fn place_in(p: usize, r: Report) -> Record
-    requires { ⌜ (p ≤ lastPhase) × (inRange r ≡ true) × (isTime (r .t) ≡ true) ⌝ }
+    requires { ⌜ ReportAsked p r ⌝ }
     ensures { λ a. ⌜ a ≡ placedIn p r ⌝ }
 {
     let numbers = grid::curve_numbers();
@@ -234,7 +230,7 @@ pub fn place_in(p: usize, r: Report) -> Record
 // One pass over the records: one that stays is written after those kept before it, any other to `dead`, placed in the phase of the time. Gives back how
 // many are kept. The count and the words after the kept records stay as they are: `take_dead` sets them.
 fn keep_live(store: &mut [i32], step: Step, dead: &mut [i32]) -> usize
-    requires { ⌜ (IsStore (now store)) × (IsStep step) × (length (now dead) ≡ floatWords) ⌝ }
+    requires { ⌜ TakeAsked (now store) step (now dead) ⌝ }
     ensures { λ k. ⌜ KeptFirst (stays (step .now) (step .time)) (now (store .entry)) k (now (store .exit)) ⌝ }
     ensures { λ k. ⌜ Taken (phaseOf (step .time)) (moves (step .now) (step .time)) (recordsOf (now (store .entry))) (heldOf (now (store .entry)) - k) (now (dead .exit)) ⌝ }
 {
@@ -262,7 +258,7 @@ fn keep_live(store: &mut [i32], step: Step, dead: &mut [i32]) -> usize
 
 // Takes the records that move out of the store, and writes them to `dead`, placed in the phase of the time. Gives back how many.
 fn take_dead(store: &mut [i32], step: Step, dead: &mut [i32]) -> usize
-    requires { ⌜ (IsStore (now store)) × (IsStep step) × (length (now dead) ≡ floatWords) ⌝ }
+    requires { ⌜ TakeAsked (now store) step (now dead) ⌝ }
     ensures { λ m. ⌜ now (store .exit) ≡ storeOf (nowOf (now (store .entry))) (passing (stays (step .now) (step .time)) (recordsOf (now (store .entry)))) ⌝ }
     ensures { λ m. ⌜ Taken (phaseOf (step .time)) (moves (step .now) (step .time)) (recordsOf (now (store .entry))) m (now (dead .exit)) ⌝ }
 {
@@ -277,7 +273,7 @@ fn take_dead(store: &mut [i32], step: Step, dead: &mut [i32]) -> usize
 
 // The row of a record's cell widened by its speeds.
 pub fn widen(table: &mut [i16], r: Record)
-    requires { ⌜ (length (now table) ≡ tableWords) × (isRanged r ≡ true) ⌝ }
+    requires { ⌜ CanFindRow (now table) r ⌝ }
     ensures { λ u. ⌜ now (table .exit) ≡ widenedBy (now (table .entry)) r ⌝ }
 {
     widen_row(
@@ -290,7 +286,7 @@ pub fn widen(table: &mut [i16], r: Record)
 
 // Widens the row of each of the first m records of `dead`.
 fn widen_all(table: &mut [i16], dead: &[i32], m: usize)
-    requires { ⌜ (length (now table) ≡ tableWords) × (recordWords * m ≤ length (now dead)) × (allRanged (readRecords m (now dead)) ≡ true) ⌝ }
+    requires { ⌜ WidenAllAsked (now table) (now dead) m ⌝ }
     ensures { λ u. ⌜ now (table .exit) ≡ widenedByAll (now (table .entry)) (readRecords m (now (dead .entry))) ⌝ }
 {
     let mut j = 0;
@@ -315,7 +311,7 @@ fn place_dead(store: &mut [i32], table: &mut [i16], dead: &[i32], m: usize)
 
 // The records after a clock step: those that move are placed in the phase of the time, and the row of each is widened. The time itself is set apart.
 pub fn step_records(store: &mut [i32], table: &mut [i16], step: Step)
-    requires { ⌜ (IsStore (now store)) × (length (now table) ≡ tableWords) × (IsStep step) ⌝ }
+    requires { ⌜ StepAsked (now store) (now table) step ⌝ }
     ensures { λ u. ⌜ now (store .exit) ≡ storeOf (nowOf (now (store .entry))) (steppedRecords (step .now) (step .time) (recordsOf (now (store .entry)))) ⌝ }
     ensures { λ u. ⌜ now (table .exit) ≡ widenedByAll (now (table .entry)) (replaced (phaseOf (step .time)) (moves (step .now) (step .time)) (recordsOf (now (store .entry)))) ⌝ }
 {

@@ -1,11 +1,11 @@
 // Words of a store written: a record, and the count of floats held.
 ghost use mathlib.Core.Path.{_≡_};
 ghost use mathlib.Core.List.{_++_};
-ghost use Prim.Native.Nat.{_<_, _≤_, _+_};
+ghost use Prim.Native.Nat.{_≤_, _+_};
 ghost use lib.IntN.{pos};
 ghost use lib.ListN.{length, take, drop, set};
-ghost use Rattle.grid.specs.Units.{capacity};
 ghost use Rattle.records.specs.Records.{recordWords, wordsOf};
+ghost use Rattle.store.specs.Needs.{HeldAsked};
 use records::Record;
 
 // Writes a record over the seven words at k.
@@ -32,7 +32,7 @@ pub fn write_record(words: &mut [i32], k: usize, r: Record)
 
 // Sets the count of floats held, in record 0.
 pub fn set_held(store: &mut [i32], n: usize)
-    requires { ⌜ (1 < length (now store)) × (n ≤ capacity) ⌝ }
+    requires { ⌜ HeldAsked (now store) n ⌝ }
     ensures { λ u. ⌜ now (store .exit) ≡ set (now (store .entry)) 1 (pos n) ⌝ }
 {
     let w = n as i32;

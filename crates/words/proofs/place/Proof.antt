@@ -36,17 +36,17 @@ new-ranged c =
 place-in-requires : tie.Need-place-in-requires
 place-in-requires c κs =
     let a = c .before .before in
-    (rw (phase-is c) (last-phase (a .args .r .t) (a .pre .is-time)), a .pre .in-range, a .pre .is-time)
+    record { phase = rw (phase-is c) (last-phase (a .args .r .t) (a .pre .is-time)); in-range = a .pre .in-range; is-time = a .pre .is-time }
 
 insert-requires : tie.Need-insert-requires
 insert-requires c κs =
     let a = c .before .before .before .before in
-    (a .pre .can-change .is-store, new-ranged (c .before), a .pre .room)
+    record { store = a .pre .can-change .is-store; ranged = new-ranged (c .before); room = a .pre .room }
 
 widen-requires : tie.Need-widen-requires
 widen-requires c κs =
     let n = c .before .before .before .before in
-    (n .before .before .before .pre .can-change .whole-table, new-ranged n)
+    record { whole-table = n .before .before .before .pre .can-change .whole-table; ranged = new-ranged n }
 
 same-length : tie.Need-same-length
 same-length c = search needs

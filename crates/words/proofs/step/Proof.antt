@@ -42,7 +42,10 @@ cast-between c = wide-fits w32 w64 tt (start c .args .t) (search needs)
 
 between-requires : tie.Need-between-requires
 between-requires c κs =
-    (ap isTime (now-is c) ∙ time-now (entry c) (start c .args .t) (start c .pre), ap isTime (time-is c) ∙ start c .pre .is-time)
+    record {
+      is-now = ap isTime (now-is c) ∙ time-now (entry c) (start c .args .t) (start c .pre);
+      is-time = ap isTime (time-is c) ∙ start c .pre .is-time;
+    }
 
 -- the step
 module _ (c : tie.After-between) where

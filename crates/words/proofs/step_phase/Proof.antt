@@ -19,7 +19,7 @@ step-records-requires : tie.Need-step-records-requires
 step-records-requires c κs =
     let e = c .before .before .before in
     let a = e .before .before in
-    (a .pre .is-store, e .empty-newly-live .kept .0 ∙ a .pre .whole-table, a .pre .is-step)
+    record { store = a .pre .is-store; table-long = e .empty-newly-live .kept .0 ∙ a .pre .whole-table; is-step = a .pre .is-step }
 
 same-length : tie.Need-same-length
 same-length c = search needs

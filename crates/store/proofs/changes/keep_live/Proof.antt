@@ -31,12 +31,12 @@ curve-numbers-requires : tie.Need-curve-numbers-requires Inv-loop μ-loop
 curve-numbers-requires c κs = search needs
 
 held-of-requires : tie.Need-held-of-requires Inv-loop μ-loop
-held-of-requires c κs = omega (arith, store-room _ (c .before .before .pre .0))
+held-of-requires c κs = omega (arith, store-room _ (c .before .before .pre .store))
 
 loop-holds : tie.Need-loop-holds Inv-loop μ-loop
 loop-holds c =
     let a = c .before .before .before in
-    pass-start _ _ _ _ _ _ (a .pre .0) (c .held-of .ensures) (a .pre .2)
+    pass-start _ _ _ _ _ _ (a .pre .store) (c .held-of .ensures) (a .pre .room)
 
 mul-read-from : tie.Need-mul-read-from Inv-loop μ-loop
 mul-read-from c = omega (arith, c .before .before .loop .inv)
@@ -48,7 +48,7 @@ read-from-requires : tie.Need-read-from-requires Inv-loop μ-loop
 read-from-requires c κs = omega (arith, c .before .before .loop .inv)
 
 stays-requires : tie.Need-stays-requires Inv-loop μ-loop
-stays-requires c κs = start (c .before .before .before) .pre .1
+stays-requires c κs = start (c .before .before .before) .pre .is-step
 
 mul-write-record : tie.Need-mul-write-record Inv-loop μ-loop
 mul-write-record c = omega (arith, looping (c .before .before) .before .loop .inv)
@@ -90,7 +90,10 @@ place-by-requires c κs =
     let a = start (l .before) in
     let is-ranged = pass-ranged _ _ _ _ _ _ _ _ _ (l .before .loop .inv) (l .loop-test .taken) _ (s .before .read-from .ensures) in
     let g = ranged-parts (s .before .read-from .result) is-ranged in
-    (l .before .before .before .before .curve-numbers .ensures, to-small (a .args .step) (a .pre .1), g .report, g .time)
+    record {
+      curve = l .before .before .before .before .curve-numbers .ensures;
+      report = record { phase = to-small (a .args .step) (a .pre .is-step); in-range = g .report; is-time = g .time };
+    }
 
 write-record-requires-2 : tie.Need-write-record-requires-2 Inv-loop μ-loop
 write-record-requires-2 c κs =
@@ -112,14 +115,14 @@ loop-again-2 c =
     let l = looping s in
     let a = start (l .before) in
     let leaves = sym (s .stays .ensures) ∙ else .if1 .left in
-    let placed = p .place-by .ensures ∙ ap (λ (q : ℕ). placedIn q (s .before .read-from .result .report)) (a .pre .1 .to-is) in
+    let placed = p .place-by .ensures ∙ ap (λ (q : ℕ). placedIn q (s .before .read-from .result .report)) (a .pre .is-step .to-is) in
     pass-dead _ _ _ _ _ _ _ _ _ (l .before .loop .inv) (l .loop-test .taken) _ (s .before .read-from .ensures) leaves (ap not leaves) _ placed _ (w .write-record2 .ensures)
 
 same-length : tie.Need-same-length Inv-loop μ-loop
-same-length c = omega (arith, c .before .loop .inv .long, store-room _ (start (c .before) .pre .0))
+same-length c = omega (arith, c .before .loop .inv .long, store-room _ (start (c .before) .pre .store))
 
 same-length-2 : tie.Need-same-length-2 Inv-loop μ-loop
-same-length-2 c = omega (arith, c .before .loop .inv .long-dead, start (c .before) .pre .2)
+same-length-2 c = omega (arith, c .before .loop .inv .long-dead, start (c .before) .pre .room)
 
 returns : tie.Need-returns Inv-loop μ-loop
 returns c = pass-end _ _ _ _ _ _ _ _ _ (c .before .loop .inv) (c .loop-test .left)

@@ -5,16 +5,16 @@ use Rattle.store.proofs.changes.place_dead.Statement.{statement}
 use Rattle.store.proofs.changes.place_dead.Tie as tie
 
 returns : tie.Need-returns
-returns c = (none-stored _ _ _ (c .before .pre .store) (c .if1 .taken), none-widened _ _ _ (c .if1 .taken))
+returns c = (none-stored _ _ _ (c .before .pre .put-all .store) (c .if1 .taken), none-widened _ _ _ (c .if1 .taken))
 
 widen-all-requires : tie.Need-widen-all-requires
-widen-all-requires c κs = (c .before .before .pre .table, c .before .before .pre .inside, c .before .before .pre .ranged)
+widen-all-requires c κs = c .before .before .pre .widen-all
 
 put-all-requires : tie.Need-put-all-requires
 put-all-requires c κs =
     let o = c .before .before .before .before in
     let a = o .before in
-    (a .pre .store, a .pre .inside, a .pre .total)
+    a .pre .put-all
 
 same-length : tie.Need-same-length
 same-length c = c .before .put-all .kept .0

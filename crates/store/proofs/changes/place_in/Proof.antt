@@ -8,7 +8,7 @@ curve-numbers-requires : tie.Need-curve-numbers-requires
 curve-numbers-requires c κs = search needs
 
 place-by-requires : tie.Need-place-by-requires
-place-by-requires c κs = let p = c .before .before .pre in (c .before .curve-numbers .ensures, p .0, p .1, p .2)
+place-by-requires c κs = record { curve = c .before .curve-numbers .ensures; report = c .before .before .pre }
 
 returns : tie.Need-returns
 returns c = c .place-by .ensures

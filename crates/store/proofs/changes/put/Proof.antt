@@ -12,43 +12,43 @@ use Rattle.store.proofs.changes.put.Statement.{statement}
 use Rattle.store.proofs.changes.put.Tie as tie
 
 held-of-requires : tie.Need-held-of-requires
-held-of-requires c κs = omega (arith, words-room _ (c .before .pre .0))
+held-of-requires c κs = omega (arith, words-room _ (c .before .pre .store))
 
 place-of-requires : tie.Need-place-of-requires
-place-of-requires c κs = omega (arith, words-room _ (c .before .before .before .pre .0))
+place-of-requires c κs = omega (arith, words-room _ (c .before .before .before .pre .store))
 
 mul-start : tie.Need-mul-start
-mul-start c = omega (arith, words-room _ (c .before .before .before .before .pre .0), c .before .before .held-of .ensures, within _ _ _ (c .place-of .ensures))
+mul-start c = omega (arith, words-room _ (c .before .before .before .before .pre .store), c .before .before .held-of .ensures, within _ _ _ (c .place-of .ensures))
 
 add-start : tie.Need-add-start
-add-start c = omega (arith, words-room _ (c .before .before .before .before .pre .0), c .before .before .held-of .ensures, within _ _ _ (c .place-of .ensures))
+add-start c = omega (arith, words-room _ (c .before .before .before .before .pre .store), c .before .before .held-of .ensures, within _ _ _ (c .place-of .ensures))
 
 mul-end : tie.Need-mul-end
-mul-end c = omega (arith, words-room _ (c .before .before .before .before .pre .0), c .before .before .held-of .ensures, within _ _ _ (c .place-of .ensures))
+mul-end c = omega (arith, words-room _ (c .before .before .before .before .pre .store), c .before .before .held-of .ensures, within _ _ _ (c .place-of .ensures))
 
 add-end : tie.Need-add-end
-add-end c = omega (arith, words-room _ (c .before .before .before .before .pre .0), c .before .before .held-of .ensures, within _ _ _ (c .place-of .ensures))
+add-end c = omega (arith, words-room _ (c .before .before .before .before .pre .store), c .before .before .held-of .ensures, within _ _ _ (c .place-of .ensures))
 
 add-end-2 : tie.Need-add-end-2
-add-end-2 c = omega (arith, words-room _ (c .before .before .before .before .pre .0), c .before .before .held-of .ensures, within _ _ _ (c .place-of .ensures))
+add-end-2 c = omega (arith, words-room _ (c .before .before .before .before .pre .store), c .before .before .held-of .ensures, within _ _ _ (c .place-of .ensures))
 
 mul-move-up : tie.Need-mul-move-up
-mul-move-up c = omega (arith, words-room _ (c .before .before .before .before .pre .0), c .before .before .held-of .ensures, within _ _ _ (c .place-of .ensures))
+mul-move-up c = omega (arith, words-room _ (c .before .before .before .before .pre .store), c .before .before .held-of .ensures, within _ _ _ (c .place-of .ensures))
 
 sub-move-up : tie.Need-sub-move-up
-sub-move-up c = omega (arith, words-room _ (c .before .before .before .before .pre .0), c .before .before .held-of .ensures, within _ _ _ (c .place-of .ensures))
+sub-move-up c = omega (arith, words-room _ (c .before .before .before .before .pre .store), c .before .before .held-of .ensures, within _ _ _ (c .place-of .ensures))
 
 part-move-up-start : tie.Need-part-move-up-start
-part-move-up-start c = omega (arith, words-room _ (c .before .before .before .before .pre .0), c .before .before .held-of .ensures, within _ _ _ (c .place-of .ensures))
+part-move-up-start c = omega (arith, words-room _ (c .before .before .before .before .pre .store), c .before .before .held-of .ensures, within _ _ _ (c .place-of .ensures))
 
 part-move-up-end : tie.Need-part-move-up-end
-part-move-up-end c = omega (arith, words-room _ (c .before .before .before .before .pre .0), c .before .before .held-of .ensures, within _ _ _ (c .place-of .ensures))
+part-move-up-end c = omega (arith, words-room _ (c .before .before .before .before .pre .store), c .before .before .held-of .ensures, within _ _ _ (c .place-of .ensures))
 
 move-up-requires : tie.Need-move-up-requires
 move-up-requires c κs =
     let n = c .before .before .before in
     let a = n .before .before in
-    simp (length-take, length-drop) (omega (arith, words-room _ (a .pre .0), n .held-of .ensures, within _ _ _ (c .before .place-of .ensures)))
+    simp (length-take, length-drop) (omega (arith, words-room _ (a .pre .store), n .held-of .ensures, within _ _ _ (c .before .place-of .ensures)))
 
 write-record-requires : tie.Need-write-record-requires
 write-record-requires c κs =
@@ -58,7 +58,7 @@ write-record-requires c κs =
     let a = n .before .before in
     let k = 7 * p .place-of .result + 7 in
     let long = same-len-mid {X = ℤ} k (7 * n .held-of .result + 7 + 7 - k) (a .args .store .now) (m .move-up .last .0) (m .move-up .kept .0) in
-    omega (arith, long, words-room _ (a .pre .0), n .held-of .ensures, within _ _ _ (p .place-of .ensures))
+    omega (arith, long, words-room _ (a .pre .store), n .held-of .ensures, within _ _ _ (p .place-of .ensures))
 
 add-set-held : tie.Need-add-set-held
 add-set-held c =
@@ -66,7 +66,7 @@ add-set-held c =
     let e = o .before .before .before .before in
     let n = e .before in
     let a = n .before .before in
-    omega (arith, words-room _ (a .pre .0), n .held-of .ensures)
+    omega (arith, words-room _ (a .pre .store), n .held-of .ensures)
 
 set-held-requires : tie.Need-set-held-requires
 set-held-requires c κs =
@@ -77,7 +77,8 @@ set-held-requires c κs =
     let a = n .before .before in
     let k = 7 * p .place-of .result + 7 in
     let long = same-len-mid {X = ℤ} k (7 * n .held-of .result + 7 + 7 - k) (a .args .store .now) (m .move-up .last .0) (m .move-up .kept .0) in
-    omega (arith, w .write-record .kept .0, long, words-room _ (a .pre .0), n .held-of .ensures, a .pre .1)
+    let room = words-room _ (a .pre .store) in
+    record { count-word = omega (arith, w .write-record .kept .0, long, room); few = omega (arith, room, n .held-of .ensures, a .pre .room) }
 
 same-length : tie.Need-same-length
 same-length c = search needs

@@ -23,7 +23,7 @@ remove-at-requires : tie.Need-remove-at-requires
 remove-at-requires c κs =
     let n = c .before .before in
     let a = n .before .before .before .before in
-    (has-words _ (a .pre), omega (arith, n .held-of .ensures))
+    record { store = has-words _ (a .pre); within = omega (arith, n .held-of .ensures) }
 
 same-length-2 : tie.Need-same-length-2
 same-length-2 c = search needs

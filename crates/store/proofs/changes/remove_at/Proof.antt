@@ -12,34 +12,34 @@ use Rattle.store.proofs.changes.remove_at.Statement.{statement}
 use Rattle.store.proofs.changes.remove_at.Tie as tie
 
 held-of-requires : tie.Need-held-of-requires
-held-of-requires c κs = omega (arith, words-room _ (c .before .pre .0))
+held-of-requires c κs = omega (arith, words-room _ (c .before .pre .store))
 
 mul-start : tie.Need-mul-start
-mul-start c = omega (arith, words-room _ (c .before .before .pre .0), c .held-of .ensures)
+mul-start c = omega (arith, words-room _ (c .before .before .pre .store), c .held-of .ensures)
 
 add-start : tie.Need-add-start
-add-start c = omega (arith, words-room _ (c .before .before .pre .0), c .held-of .ensures)
+add-start c = omega (arith, words-room _ (c .before .before .pre .store), c .held-of .ensures)
 
 mul-end : tie.Need-mul-end
-mul-end c = omega (arith, words-room _ (c .before .before .pre .0), c .held-of .ensures)
+mul-end c = omega (arith, words-room _ (c .before .before .pre .store), c .held-of .ensures)
 
 add-end : tie.Need-add-end
-add-end c = omega (arith, words-room _ (c .before .before .pre .0), c .held-of .ensures)
+add-end c = omega (arith, words-room _ (c .before .before .pre .store), c .held-of .ensures)
 
 mul-close-up : tie.Need-mul-close-up
-mul-close-up c = omega (arith, words-room _ (c .before .before .pre .0), c .held-of .ensures)
+mul-close-up c = omega (arith, words-room _ (c .before .before .pre .store), c .held-of .ensures)
 
 sub-close-up : tie.Need-sub-close-up
-sub-close-up c = omega (arith, words-room _ (c .before .before .pre .0), c .held-of .ensures)
+sub-close-up c = omega (arith, words-room _ (c .before .before .pre .store), c .held-of .ensures)
 
 part-close-up-start : tie.Need-part-close-up-start
-part-close-up-start c = omega (arith, words-room _ (c .before .before .pre .0), c .held-of .ensures)
+part-close-up-start c = omega (arith, words-room _ (c .before .before .pre .store), c .held-of .ensures)
 
 part-close-up-end : tie.Need-part-close-up-end
-part-close-up-end c = omega (arith, words-room _ (c .before .before .pre .0), c .held-of .ensures)
+part-close-up-end c = omega (arith, words-room _ (c .before .before .pre .store), c .held-of .ensures)
 
 close-up-requires : tie.Need-close-up-requires
-close-up-requires c κs = simp (length-take, length-drop) (omega (arith, words-room _ (c .before .before .before .pre .0), c .before .held-of .ensures))
+close-up-requires c κs = simp (length-take, length-drop) (omega (arith, words-room _ (c .before .before .before .pre .store), c .before .held-of .ensures))
 
 sub-set-held : tie.Need-sub-set-held
 sub-set-held c = omega arith
@@ -50,7 +50,9 @@ set-held-requires c κs =
     let n = u .before .before in
     let a = n .before .before in
     let k = 7 * a .args .i + 7 in
-    omega (arith, same-len-mid {X = ℤ} k (7 * n .held-of .result + 7 - k) (a .args .store .now) (u .close-up .last .0) (u .close-up .kept .0), words-room _ (a .pre .0), n .held-of .ensures)
+    let long = same-len-mid {X = ℤ} k (7 * n .held-of .result + 7 - k) (a .args .store .now) (u .close-up .last .0) (u .close-up .kept .0) in
+    let room = words-room _ (a .pre .store) in
+    record { count-word = omega (arith, long, room); few = omega (arith, room, n .held-of .ensures) }
 
 same-length : tie.Need-same-length
 same-length c = search needs

@@ -11,7 +11,7 @@ use Rattle.store.proofs.changes.take_dead.Statement.{statement}
 use Rattle.store.proofs.changes.take_dead.Tie as tie
 
 held-of-requires : tie.Need-held-of-requires
-held-of-requires c κs = omega (arith, store-room _ (c .before .pre .0))
+held-of-requires c κs = omega (arith, store-room _ (c .before .pre .store))
 
 keep-live-requires : tie.Need-keep-live-requires
 keep-live-requires c κs = c .before .before .before .before .pre
@@ -21,35 +21,35 @@ mul-start c =
     let g = c .before .before in
     let o = g .before .before .before .before in
     let a = o .before in
-    omega (arith, store-room _ (a .pre .0), g .keep-live .ensures .0 .within)
+    omega (arith, store-room _ (a .pre .store), g .keep-live .ensures .0 .within)
 
 add-start : tie.Need-add-start
 add-start c =
     let g = c .before .before in
     let o = g .before .before .before .before in
     let a = o .before in
-    omega (arith, store-room _ (a .pre .0), g .keep-live .ensures .0 .within)
+    omega (arith, store-room _ (a .pre .store), g .keep-live .ensures .0 .within)
 
 mul-end : tie.Need-mul-end
 mul-end c =
     let o = c .before .before .before .before in
     let n = o .before in
     let a = n .before .before in
-    omega (arith, store-room _ (a .pre .0), n .held-of .ensures)
+    omega (arith, store-room _ (a .pre .store), n .held-of .ensures)
 
 add-end : tie.Need-add-end
 add-end c =
     let o = c .before .before .before .before in
     let n = o .before in
     let a = n .before .before in
-    omega (arith, store-room _ (a .pre .0), n .held-of .ensures)
+    omega (arith, store-room _ (a .pre .store), n .held-of .ensures)
 
 mul-clear : tie.Need-mul-clear
 mul-clear c =
     let k = c .before .before in
     let n = k .before .before .before in
     let a = n .before .before in
-    omega (arith, store-room _ (a .pre .0), k .keep-live .ensures .0 .within, n .held-of .ensures)
+    omega (arith, store-room _ (a .pre .store), k .keep-live .ensures .0 .within, n .held-of .ensures)
 
 sub-clear : tie.Need-sub-clear
 sub-clear c =
@@ -68,7 +68,7 @@ part-clear-end c =
     let g = c .before .before in
     let n = g .before .before .before in
     let a = n .before .before in
-    omega (arith, g .keep-live .kept .0, store-room _ (a .pre .0), n .held-of .ensures)
+    omega (arith, g .keep-live .kept .0, store-room _ (a .pre .store), n .held-of .ensures)
 
 clear-requires : tie.Need-clear-requires
 clear-requires c κs = search needs
@@ -80,9 +80,9 @@ set-held-requires c κs =
     let n = g .before .before .before in
     let a = n .before .before in
     let k = 7 * g .keep-live .result + 7 in
-    let room = store-room _ (a .pre .0) in
+    let room = store-room _ (a .pre .store) in
     let long = same-len-mid {X = ℤ} k (7 * n .held-of .result + 7 - k) (g .keep-live .last .0) (l .clear .last .0) (l .clear .kept .0) in
-    (omega (arith, room, g .keep-live .kept .0, long), omega (arith, room, g .keep-live .ensures .0 .within))
+    record { count-word = omega (arith, room, g .keep-live .kept .0, long); few = omega (arith, room, g .keep-live .ensures .0 .within) }
 
 sub-result : tie.Need-sub-result
 sub-result c =
@@ -104,7 +104,7 @@ returns c =
     let k = l .before .before .before .before in
     let n = k .before .before .before in
     let a = n .before .before in (
-      taken-out _ _ _ _ _ _ _ (a .pre .0) (n .held-of .ensures) (k .keep-live .ensures .0) (k .keep-live .kept .0) (l .clear .ensures) (h .set-held .ensures),
+      taken-out _ _ _ _ _ _ _ (a .pre .store) (n .held-of .ensures) (k .keep-live .ensures .0) (k .keep-live .kept .0) (l .clear .ensures) (h .set-held .ensures),
       rw (n .held-of .ensures) (k .keep-live .ensures .1),
     )
 

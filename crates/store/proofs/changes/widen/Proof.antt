@@ -29,15 +29,15 @@ number-is c = tested₁ w32 numberOfKey (c .number-of-key .result) (start c .arg
 drift-of-requires : tie.Need-drift-of-requires
 drift-of-requires c κs =
     let s = start c in
-    ranged-parts (s .args .r) (s .pre .1) .report
+    ranged-parts (s .args .r) (s .pre .ranged) .report
 
 widen-row-requires : tie.Need-widen-row-requires
 widen-row-requires c κs =
     let n = c .before in
     let s = start n in
     record {
-      whole-table = s .pre .0;
-      one-of-three = omega (arith, slot-is (n .before .before), slot-below (s .args .r) (s .pre .1));
+      whole-table = s .pre .whole-table;
+      one-of-three = omega (arith, slot-is (n .before .before), slot-below (s .args .r) (s .pre .ranged));
       number-on = omega (arith, number-is n, number-of-key-below (s .args .r .key));
     }
 

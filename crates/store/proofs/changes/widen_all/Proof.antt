@@ -15,16 +15,19 @@ abbrev μ-loop : tie.MeasureT-loop
 μ-loop table₀ dead m j₀ table j = m - j
 
 loop-holds : tie.Need-loop-holds Inv-loop μ-loop
-loop-holds c = widen-start _ _ _ (c .pre .0) (c .pre .2)
+loop-holds c = widen-start _ _ _ (c .pre .table-long) (c .pre .ranged)
 
 mul-read-from : tie.Need-mul-read-from Inv-loop μ-loop
-mul-read-from c = omega (arith, c .before .before .before .pre .1)
+mul-read-from c = omega (arith, c .before .before .before .pre .inside)
 
 read-from-requires : tie.Need-read-from-requires Inv-loop μ-loop
-read-from-requires c κs = omega (arith, c .before .before .before .pre .1)
+read-from-requires c κs = omega (arith, c .before .before .before .pre .inside)
 
 widen-requires : tie.Need-widen-requires Inv-loop μ-loop
-widen-requires c κs = ((c .before .before .before .loop .inv) .table, widen-in-range _ _ _ _ _ (c .before .before .before .loop .inv) (c .before .before .loop-test .taken) _ (c .read-from .ensures))
+widen-requires c κs =
+    let l = c .before .before in
+    let inv = l .before .loop .inv in
+    record { whole-table = inv .table-long; ranged = widen-in-range _ _ _ _ _ inv (l .loop-test .taken) _ (c .read-from .ensures) }
 
 add-j : tie.Need-add-j Inv-loop μ-loop
 add-j c = search needs
@@ -40,7 +43,7 @@ loop-again c =
     widen-more _ _ _ _ _ (at .loop .inv) (l .loop-test .taken) _ (r .read-from .ensures) _ (c .before .widen .ensures)
 
 same-length : tie.Need-same-length Inv-loop μ-loop
-same-length c = (c .before .loop .inv) .table ∙ sym (c .before .before .pre .0)
+same-length c = c .before .loop .inv .table-long ∙ sym (c .before .before .pre .table-long)
 
 returns : tie.Need-returns Inv-loop μ-loop
 returns c = widen-end _ _ _ _ _ (c .before .loop .inv) (c .loop-test .left)
