@@ -9,7 +9,6 @@ use borrow.Author.Tests.{lt-ltb, le-ltb}
 use lib.IntN.{natAbs}
 use lib.ListN.{length, drop, length-replicate}
 use Rattle.ints.specs.Whole.{up}
-use Rattle.ints.proofs.Lists.{passing}
 use Rattle.ints.proofs.Parts.{abs, one-part}
 use Rattle.grid.specs.Units.{cells, idMarks}
 use Rattle.grid.specs.Reports.{isListed}
@@ -32,8 +31,8 @@ use Rattle.records.proofs.SoundnessLaws as Sound
 use Rattle.records.proofs.RangeLaws.{between-from, last-phase}
 use Rattle.reading.specs.Reading.{ReadingOf, SmallReading, hasKey, listedIn, isRead, cellsIn, usefulIn, withIds, rising}
 use Rattle.reading.specs.declared.Reading.{Reading}
-use Rattle.reading.proofs.ListedLaws.{listed-is}
-use Rattle.reading.proofs.ReadingLaws.{cells-few}
+use Rattle.reading.proofs.ListedLaws.{passing-few}
+use Rattle.reading.proofs.MarkedCellsLaws.{cells-few}
 use Rattle.ledger.specs.Answers.{numberOf, valueOf, countsOf}
 use Rattle.ledger.specs.Machine.{summed}
 use Rattle.ledger.specs.Refusals.{firstToFail}
@@ -83,17 +82,8 @@ module _ (w : Words) (ask : Ask) (can : CanAsk w ask) where
 
 -- ---- bounds
 
-few-passing : (f : Record → Bool) (rs : List Record) → length (passing f rs) ≤ length rs
-unfolding passing
-few-passing f [] = omega arith
-few-passing f (r ∷ rs) = go (f r) (few-passing f rs)
-  where
-    go : (b : Bool) → length (passing f rs) ≤ length rs → length (cond b (r ∷ passing f rs) (passing f rs)) ≤ suc (length rs)
-    go true h = omega arith
-    go false h = omega arith
-
 pub few-listed : (marks : List ℕ) (slot : ℕ) (inside : Report → Bool) (rs : List Record) → length (listedIn marks slot inside rs) ≤ length rs
-few-listed marks slot inside rs = rw (listed-is marks slot inside rs) (few-passing (isRead marks slot inside) rs)
+few-listed marks slot inside rs = passing-few (isRead marks slot inside) rs
 
 one-at-most : (b : Bool) (m n : ℕ) → m ≤ n → cond b 1 0 + m ≤ suc n
 one-at-most true m n h = omega arith
