@@ -40,7 +40,7 @@ use Rattle.asking.proofs.PhaseReadingLaws.{FitAsk, fit-ask, phaseOfReco
 
 -- ---- the ids inside
 
-pub inside-is : (query : Query) (rs : List Record) → idsInside query rs ≡ inOrder (map idOf (passing (isInside query) rs))
+inside-is : (query : Query) (rs : List Record) → idsInside query rs ≡ inOrder (map idOf (passing (isInside query) rs))
 unfolding idsInside inOrder passing
 inside-is query [] = refl
 inside-is query (r ∷ rs) = go (isInside query r) (inside-is query rs)
@@ -52,7 +52,7 @@ inside-is query (r ∷ rs) = go (isInside query r) (inside-is query rs)
     go true e = ap (putInOrder (idOf r)) e
     go false e = e
 
-pub inside-length : (query : Query) (rs : List Record) → length (idsInside query rs) ≡ length (passing (isInside query) rs)
+inside-length : (query : Query) (rs : List Record) → length (idsInside query rs) ≡ length (passing (isInside query) rs)
 inside-length query rs =
     ap length (inside-is query rs)
     ∙ in-order-length (map idOf (passing (isInside query) rs))

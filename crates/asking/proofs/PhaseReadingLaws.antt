@@ -132,7 +132,7 @@ module _ (w : Words) (sound : Sound (w .store) (w .table)) (ask : Ask) (fit : Fi
   pub float-at : {r : Record} → List·Memᴰ r (recordsIn w) → SoundRecord (timeIn w) r
   float-at {r} m = all-sound-each (timeIn w) (recordsIn w) (sound .store .sound) r m
 
-  pub valid-rows : (p : ℕ) → ValidRows (rowsOfSlot (w .table) (slotOf p))
+  valid-rows : (p : ℕ) → ValidRows (rowsOfSlot (w .table) (slotOf p))
   valid-rows p c on = valid-row-at (w .table) (sound .valid) (slotOf p) (curveNumber c) (slot-on p) (number-below c on)
 
   -- the cell of a record to be listed is marked in the record's phase: its row holds its speeds, so no method leaves the cell out
