@@ -1,7 +1,7 @@
 -- What a sound index and an ask with good numbers give the functions that choose and read, and bounds on what these count.
 -- Assumes nothing.
 use mathlib.Core.Path.{_≡_, refl, sym, ap, _∙_}
-use mathlib.Core.Bool.{Bool, true, false, cond}
+use mathlib.Core.Bool.{Bool, true, false}
 use mathlib.Core.List.{List, [], _∷_, _++_}
 use Prim.Native.Nat.{ℕ, zero, suc, _+_, _-_, _≤_, _<_, _^_}
 use native.Mathlib.Omega.{arith}
@@ -9,11 +9,9 @@ use borrow.Author.Tests.{lt-ltb, le-ltb}
 use lib.IntN.{natAbs}
 use lib.ListN.{length, drop, length-replicate}
 use Rattle.ints.specs.Whole.{up}
-use Rattle.ints.proofs.Lists.{passing}
 use Rattle.ints.proofs.Parts.{abs, one-part}
 use Rattle.grid.specs.Units.{cells, idMarks}
 use Rattle.grid.specs.Reports.{isListed}
-use Rattle.grid.specs.declared.Report.{Report}
 use Rattle.rows.specs.Row.{emptyRow, isEmpty, sameRow}
 use Rattle.rows.specs.Phases.{phaseOf, isLive, slotOf, livePhases, lastPhase}
 use Rattle.rows.specs.declared.Row.{Row}
@@ -30,10 +28,9 @@ use Rattle.records.specs.Soundness.{IsStore}
 use Rattle.records.specs.declared.Record.{Record}
 use Rattle.records.proofs.SoundnessLaws as Sound
 use Rattle.records.proofs.RangeLaws.{between-from, last-phase}
-use Rattle.reading.specs.Reading.{ReadingOf, SmallReading, hasKey, listedIn, isRead, cellsIn, usefulIn, withIds, rising}
+use Rattle.reading.specs.Reading.{ReadingOf, SmallReading, listedIn, cellsIn, usefulIn, withIds, rising}
 use Rattle.reading.specs.declared.Reading.{Reading}
-use Rattle.reading.proofs.ListedLaws.{listed-is}
-use Rattle.reading.proofs.ReadingLaws.{cells-few}
+use Rattle.reading.proofs.ListedLaws.{few-listed, cells-few, few-useful}
 use Rattle.ledger.specs.Answers.{numberOf, valueOf, countsOf}
 use Rattle.ledger.specs.Machine.{summed}
 use Rattle.ledger.specs.Refusals.{firstToFail}
@@ -82,27 +79,6 @@ module _ (w : Words) (ask : Ask) (can : CanAsk w ask) where
   can-read ids h = record { is-store = ask-store; small = record { small-time = small-time }; all-marks = h }
 
 -- ---- bounds
-
-few-passing : (f : Record → Bool) (rs : List Record) → length (passing f rs) ≤ length rs
-unfolding passing
-few-passing f [] = omega arith
-few-passing f (r ∷ rs) = go (f r) (few-passing f rs)
-  where
-    go : (b : Bool) → length (passing f rs) ≤ length rs → length (cond b (r ∷ passing f rs) (passing f rs)) ≤ suc (length rs)
-    go true h = omega arith
-    go false h = omega arith
-
-pub few-listed : (marks : List ℕ) (slot : ℕ) (inside : Report → Bool) (rs : List Record) → length (listedIn marks slot inside rs) ≤ length rs
-few-listed marks slot inside rs = rw (listed-is marks slot inside rs) (few-passing (isRead marks slot inside) rs)
-
-one-at-most : (b : Bool) (m n : ℕ) → m ≤ n → cond b 1 0 + m ≤ suc n
-one-at-most true m n h = omega arith
-one-at-most false m n h = omega arith
-
-pub few-useful : (slot : ℕ) (listed : List Record) (number n : ℕ) → usefulIn slot listed number n ≤ n
-unfolding usefulIn
-few-useful slot listed number zero = omega arith
-few-useful slot listed number (suc n) = one-at-most (hasKey _ listed) _ n (few-useful slot listed (suc number) n)
 
 module _ (rows : Rows) (aim : Aim) where
   few-iterated : (most : ℕ) (before : Row) (b : Block) (n : ℕ) → iterated most rows aim before b n .rounds ≤ n + most

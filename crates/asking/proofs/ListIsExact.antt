@@ -1,6 +1,6 @@
 -- S3 of specs/Claims.antt, proved: over every sound store and table the ids that an ask finds are those of all held records inside, by rising number.
 -- Assumes nothing.
-use mathlib.Core.Path.{_≡_, refl, sym, ap, _∙_, subst}
+use mathlib.Core.Path.{_≡_, refl, sym, ap, _∙_}
 use mathlib.Core.Bool.{Bool, true, false, _&&_, not, cond}
 use mathlib.Core.List.{List, [], _∷_, _++_, map, List·Memᴰ, List·Memᴰ·head, List·Memᴰ·tail, List·Memᴰ·cases-cons, List·Memᴰ·not-nil}
 use mathlib.Core.List.{List·Memᴰ·append-cases, Memᴰ·append-left, Memᴰ·append-right, Memᴰ·cast}
@@ -31,7 +31,7 @@ use Rattle.reading.specs.Reading.{inSet, isRead, withIds, risingFrom}
 use Rattle.records.specs.declared.Record.{Record}
 use Rattle.records.proofs.RangeLaws.{ranges}
 use Rattle.records.proofs.SoundnessLaws.{SoundRecord, Sound, sound-parts}
-use Rattle.reading.proofs.ListedLaws.{id-among, idOf, ids-marked, listed-is, rising-in, rising-has, rising-rises}
+use Rattle.reading.proofs.ListedLaws.{idOf, ids-marked, rising-in, rising-has, rising-rises}
 use Rattle.ledger.specs.Machine.{putInOrder}
 use Rattle.ledger.proofs.IdsInOrderLaws.{inOrder, in-order-in, in-order-has, in-order-length, Apart, empty, more, in-order-rising}
 use Rattle.asking.specs.Asking.{marksIn, listedOf, foundIn, phasesNow, idsNeeded, idsFound}
@@ -40,7 +40,7 @@ use Rattle.asking.proofs.PhaseReadingLaws.{FitAsk, fit-ask, phaseOfReco
 
 -- ---- the ids inside
 
-pub inside-is : (query : Query) (rs : List Record) → idsInside query rs ≡ inOrder (map idOf (passing (isInside query) rs))
+inside-is : (query : Query) (rs : List Record) → idsInside query rs ≡ inOrder (map idOf (passing (isInside query) rs))
 unfolding idsInside inOrder passing
 inside-is query [] = refl
 inside-is query (r ∷ rs) = go (isInside query r) (inside-is query rs)
@@ -52,7 +52,7 @@ inside-is query (r ∷ rs) = go (isInside query r) (inside-is query rs)
     go true e = ap (putInOrder (idOf r)) e
     go false e = e
 
-pub inside-length : (query : Query) (rs : List Record) → length (idsInside query rs) ≡ length (passing (isInside query) rs)
+inside-length : (query : Query) (rs : List Record) → length (idsInside query rs) ≡ length (passing (isInside query) rs)
 inside-length query rs =
     ap length (inside-is query rs)
     ∙ in-order-length (map idOf (passing (isInside query) rs))
@@ -82,7 +82,7 @@ inside-apart now f (r ∷ rs) sound h =
         let e = same-id now (sound r (List·Memᴰ·head refl)) (sound (a .0) (List·Memᴰ·tail there)) (a .2) in
         true-false
         (sym (passes-some (λ (k : Record). eqZ (k .report .id) (r .report .id)) rs there (is-same (a .0 .report .id) (r .report .id) e))
-        ∙ sym (id-among (r .report .id) rs) ∙ alone)
+        ∙ alone)
 
     go : (b : Bool) → Apart (map idOf (passing f rs)) → Apart (map idOf (cond b (r ∷ passing f rs) (passing f rs)))
     go true k = more new k
@@ -116,7 +116,7 @@ module _ (w : Words) (ask : Ask) where
       let test = isRead marks (slotOf p) (isListed (ask .query)) in
       let a = map-in idOf (listedOf w ask p) k in
       let r = a .0 in
-      let b = passing-in test (recordsIn w) (subst (λ (l : List Record). List·Memᴰ r l) (listed-is marks (slotOf p) (isListed (ask .query)) (recordsIn w)) (a .1)) in
+      let b = passing-in test (recordsIn w) (a .1) in
       let read = eqb (slotOfKey (r .key)) (slotOf p) && inSet marks (numberOfKey (r .key)) in
       Memᴰ·cast (a .2) (map-has idOf (passing (isInside (ask .query)) (recordsIn w)) (passing-has (isInside (ask .query)) (recordsIn w) (b .0) (and-right read (isInside (ask .query) r) (b .1)))))
       (λ k. found-inside ps k)

@@ -40,7 +40,6 @@ use Rattle.records.proofs.RangeLaws.{time-from}
 use Rattle.records.proofs.KeyLaws.{number-of-key-in}
 use Rattle.records.proofs.SoundnessLaws.{SoundRecord, all-sound-each, Sound}
 use Rattle.reading.specs.Reading.{inSet, isRead}
-use Rattle.reading.proofs.ListedLaws.{listed-is}
 use Rattle.ledger.specs.Refusals.{badAskTime, badAsk, isRectangle}
 use Rattle.ledger.specs.declared.Ask.{Ask}
 use Rattle.ledger.proofs.SummedLaws.{summed-same, phases-summed}
@@ -133,7 +132,7 @@ module _ (w : Words) (sound : Sound (w .store) (w .table)) (ask : Ask) (fit : Fi
   pub float-at : {r : Record} → List·Memᴰ r (recordsIn w) → SoundRecord (timeIn w) r
   float-at {r} m = all-sound-each (timeIn w) (recordsIn w) (sound .store .sound) r m
 
-  pub valid-rows : (p : ℕ) → ValidRows (rowsOfSlot (w .table) (slotOf p))
+  valid-rows : (p : ℕ) → ValidRows (rowsOfSlot (w .table) (slotOf p))
   valid-rows p c on = valid-row-at (w .table) (sound .valid) (slotOf p) (curveNumber c) (slot-on p) (number-below c on)
 
   -- the cell of a record to be listed is marked in the record's phase: its row holds its speeds, so no method leaves the cell out
@@ -181,8 +180,7 @@ module _ (w : Words) (sound : Sound (w .store) (w .table)) (ask : Ask) (fit : Fi
 
   pub listed-of-phase : (p : ℕ) → isLive (phaseOf (timeIn w)) p ≡ true → listedOf w ask p ≡ passing (isInsideIn (timeIn w) (ask .query) p) (recordsIn w)
   listed-of-phase p live =
-      listed-is (marksIn w ask p) (slotOf p) (isListed (ask .query)) (recordsIn w)
-      ∙ passing-same (isRead (marksIn w ask p) (slotOf p) (isListed (ask .query))) (isInsideIn (timeIn w) (ask .query) p) (recordsIn w)
+      passing-same (isRead (marksIn w ask p) (slotOf p) (isListed (ask .query))) (isInsideIn (timeIn w) (ask .query) p) (recordsIn w)
       (λ r m. read-is p live m)
 
   -- the ids needed are as many as the records to be listed

@@ -84,6 +84,11 @@ pub record SmallCounts (most : ℕ) (c : Counts) : Type 0 where
   pub few-read : SmallReading most (c .read)
   pub few-rounds : c .rounds ≤ most
 
+-- counts of two phases whose sums leave no machine word
+pub record CanAdd (a b : Counts) : Type 0 where
+  pub few-here : SmallCounts 1000000 a
+  pub few-there : SmallCounts 1000000 b
+
 -- the counts of two phases summed
 pub record CountedTogether (a b r : Counts) : Type 0 where
   pub read-sum : ReadTogether (a .read) (b .read) (r .read)

@@ -12,7 +12,7 @@ ghost use Rattle.records.specs.Words.{words};
 ghost use Rattle.ledger.specs.declared.Answer.the-variants.{Listed};
 ghost use Rattle.asking.specs.Asking.{phasesNow, GivesList};
 ghost use Rattle.asking.specs.Counted.{CanAsk, CanAskAll, CanAskIn, CanAskFirst, settledByRoom, CanChooseIn, CanReadIn, ReadIn};
-ghost use Rattle.asking.specs.Counted.{SmallCounts, CountedTogether, CountedIn, CountedOver};
+ghost use Rattle.asking.specs.Counted.{CanAdd, CountedTogether, CountedIn, CountedOver};
 use grid::Query;
 use ledger::Answer;
 use ledger::Ask;
@@ -27,7 +27,7 @@ pub struct Counts {
 
 impl Counts {
     fn plus(self, other: Counts) -> Counts
-        requires { ⌜ SmallCounts 1000000 self × SmallCounts 1000000 other ⌝ }
+        requires { ⌜ CanAdd self other ⌝ }
         ensures { λ r. ⌜ CountedTogether self other r ⌝ }
     {
         let here = self.read;

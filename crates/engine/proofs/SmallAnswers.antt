@@ -16,7 +16,7 @@ use Rattle.methods.specs.Aims.{aimIn}
 use Rattle.methods.specs.Slots.{rowsOfSlot}
 use Rattle.records.specs.Words.{Words, timeIn, recordsIn, areSound}
 use Rattle.reading.specs.Reading.{cellsIn, usefulIn}
-use Rattle.reading.proofs.ReadingLaws.{cells-few}
+use Rattle.reading.proofs.ListedLaws.{few-listed, cells-few, few-useful}
 use Rattle.store.specs.Changes.{placedIn}
 use Rattle.store.proofs.SteppedLaws.{stepped-length}
 use Rattle.store.proofs.InsertedLaws.{inserted-length}
@@ -39,7 +39,7 @@ use Rattle.ledger.specs.declared.Verdict.{Verdict}
 use Rattle.ledger.specs.declared.Verdict.the-variants.{Passed, Failed}
 use Rattle.ledger.proofs.RefusalsLaws.{first-passed}
 use Rattle.asking.specs.Asking.{choiceOf, marksIn, listedOf, phasesNow, idsNeeded, cellsCounted, usefulCounted, roundsCounted, askSettled}
-use Rattle.asking.proofs.AskingLaws.{few-listed, few-useful, few-rounds}
+use Rattle.asking.proofs.AskingLaws.{few-rounds}
 use Rattle.engine.specs.Index.{openChecks, checksOf, checksOfChange, settled, openOut, clockOut, changed, changeOut, askOut, callOut}
 use Rattle.engine.proofs.ChecksLaws.{sound-store, sound-lent, can-step, change-can-step}
 

@@ -1,3 +1,11 @@
-pub mod ReadingLaws
+pub mod SortedLaws
+pub mod FirstFromLaws
+pub mod RunBetweenLaws
+pub mod TalliedLaws
+pub mod ReadRunLaws
+pub mod MarkedCellsLaws
+pub mod LeftFromLaws
+pub mod UsefulLaws
+pub mod ReadCellsLaws
 pub mod RisingLaws
 pub mod ListedLaws

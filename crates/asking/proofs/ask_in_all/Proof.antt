@@ -133,7 +133,7 @@ ask-in-requires-2 c κs =
 plus-requires : tie.Need-plus-requires
 plus-requires c κs =
     let j = c .before .before in
-    (small-room _ (first-is (newest j) .small), small-room _ (second-is j .small))
+    record { few-here = small-room _ (first-is (newest j) .small); few-there = small-room _ (second-is j .small) }
 
 same-length-2 : tie.Need-same-length-2
 same-length-2 c = search needs
@@ -163,7 +163,10 @@ plus-requires-2 c κs =
     let k = c .before .before in
     let u = summed k in
     let j = second u in
-    (sum-small _ _ _ (first-is (newest j) .small) (second-is j .small) (u .plus .ensures), small-room _ (third-is k .small))
+    record {
+      few-here = sum-small _ _ _ (first-is (newest j) .small) (second-is j .small) (u .plus .ensures);
+      few-there = small-room _ (third-is k .small);
+    }
 
 same-length-3 : tie.Need-same-length-3
 same-length-3 c =

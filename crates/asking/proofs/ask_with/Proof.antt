@@ -51,7 +51,10 @@ rising-requires c κs =
     let room = rw (e .before .ids-needed .ensures) at (e .if1 .left) in
     let long = i .ask-in-all .kept .1 .1 .1 .0 ∙ (ap length (a .pre .none-marked) ∙ no-ids-long) in
     let list = a .args .list .now in
-    (long, enough (entry i) (a .args .ask) (a .pre .can-ask) list (i .ask-in-all .last .1 .1 .1 .0) (i .ask-in-all .result) (counted i) room)
+    record {
+      all-ids = long;
+      room = enough (entry i) (a .args .ask) (a .pre .can-ask) list (i .ask-in-all .last .1 .1 .1 .0) (i .ask-in-all .result) (counted i) room;
+    }
 
 answer-requires : tie.Need-answer-requires
 answer-requires c κs = search needs
