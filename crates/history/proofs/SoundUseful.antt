@@ -1,11 +1,11 @@
 -- Useful cells of a sound store, reached or not: in a live phase they are those of the records inside, each of which lies in a chosen cell.
 -- Assumes nothing.
-use mathlib.Core.Path.{_≡_, sym, ap, _∙_, subst}
+use mathlib.Core.Path.{_≡_, sym, ap, _∙_}
 use mathlib.Core.Bool.{true, _&&_}
 use mathlib.Core.List.{List, List·Memᴰ, Memᴰ·cast}
 use Prim.Native.Nat.{ℕ, _+_, _*_, _<_}
 use lib.Dec.{eqb}
-use lib.IntN.{ℤ, pos}
+use lib.IntN.{pos}
 use native.Mathlib.Omega.{arith}
 use borrow.Author.Tests.{eqb-true, eq-eqb}
 use Rattle.ints.specs.Whole.{up, eqZ}
@@ -29,12 +29,11 @@ use Rattle.methods.specs.Slots.{rowsOfSlot}
 use Rattle.methods.proofs.Methods.{choice-on, choice-once}
 use Rattle.methods.proofs.Marks.{cell-of-mark, cells-counted}
 use Rattle.records.specs.Words.{Words, timeIn, recordsIn}
-use Rattle.records.specs.Order.{keyIn, slotOfKey, numberOfKey}
+use Rattle.records.specs.Order.{keyIn, slotOfKey, numberOfKey, keyAt}
 use Rattle.reading.specs.Reading.{inSet, isRead, hasKey}
 use Rattle.records.specs.declared.Record.{Record}
 use Rattle.records.proofs.KeyLaws.{number-of-key-in}
 use Rattle.records.proofs.SoundnessLaws.{Sound}
-use Rattle.reading.proofs.ListedLaws.{listed-is, key-among}
 use Rattle.ledger.specs.Machine.{Held, placeIn, listedHeld, isUseful, usefulCells, summed}
 use Rattle.ledger.proofs.SummedLaws.{summed-same}
 use Rattle.ledger.specs.declared.Ask.{Ask}
@@ -69,9 +68,6 @@ module _ (w : Words) (sound : Sound (w .store) (w .table)) (ask : Ask) (fit : Fi
   abbrev insideIn : ℕ → List Record
   insideIn p = passing (isInsideIn (timeIn w) query p) (recordsIn w)
 
-  abbrev keyAt : ℕ → ℕ → ℤ
-  keyAt p n = pos (slotOf p * cells + n)
-
   -- a record inside that has a key: it is held, placed in the phase, to be listed, and its cell has the key's number
   record HasThatKey (p n : ℕ) : Type 0 where
     r : Record
@@ -80,14 +76,14 @@ module _ (w : Words) (sound : Sound (w .store) (w .table)) (ask : Ask) (fit : Fi
     phase : phaseOfRecord (timeIn w) r ≡ p
     number : curveNumber (placeIn p (r .report)) ≡ n
 
-  that-key : (p n : ℕ) → hasKey (keyAt p n) (insideIn p) ≡ true → HasThatKey p n
+  that-key : (p n : ℕ) → hasKey (keyAt (slotOf p) n) (insideIn p) ≡ true → HasThatKey p n
   that-key p n h =
-      let a = some-passes (λ (k : Record). eqZ (k .key) (keyAt p n)) (insideIn p) (sym (key-among (keyAt p n) (insideIn p)) ∙ h) in
+      let a = some-passes (λ (k : Record). eqZ (k .key) (keyAt (slotOf p) n)) (insideIn p) h in
       let r = a .0 in
       let b = passing-in (isInsideIn (timeIn w) query p) (recordsIn w) (a .1) in
       let own = eqb-true (phaseOfRecord (timeIn w) r) p (and-left (eqb (phaseOfRecord (timeIn w) r) p) (isInside query r) (b .1)) in
-      let key : keyIn p (r .report) ≡ keyAt p n =
-      ap (λ (k : ℕ). keyIn k (r .report)) (sym own) ∙ sym (float-at w sound ask fit (b .0) .placed .key-is) ∙ same-is (r .key) (keyAt p n) (a .2) in
+      let key : keyIn p (r .report) ≡ keyAt (slotOf p) n =
+      ap (λ (k : ℕ). keyIn k (r .report)) (sym own) ∙ sym (float-at w sound ask fit (b .0) .placed .key-is) ∙ same-is (r .key) (keyAt (slotOf p) n) (a .2) in
       record {
         r = r;
         among = b .0;
@@ -97,17 +93,17 @@ module _ (w : Words) (sound : Sound (w .store) (w .table)) (ask : Ask) (fit : Fi
       }
 
   -- a record inside has the key of a cell exactly where the cell is useful
-  key-is-useful : (p : ℕ) (c : Cell) → OnGrid c → hasKey (keyAt p (curveNumber c)) (insideIn p) ≡ isUseful p c listed
+  key-is-useful : (p : ℕ) (c : Cell) → OnGrid c → hasKey (keyAt (slotOf p) (curveNumber c)) (insideIn p) ≡ isUseful p c listed
   key-is-useful p c on = same-truth _ _ there back
     where
-      there : hasKey (keyAt p (curveNumber c)) (insideIn p) ≡ true → isUseful p c listed ≡ true
+      there : hasKey (keyAt (slotOf p) (curveNumber c)) (insideIn p) ≡ true → isUseful p c listed ≡ true
       there h =
           let k = that-key p (curveNumber c) h in
           let own = placeIn p (k .r .report) in
           from-useful query p c (heldIn w) (map-has (heldRecord (timeIn w)) (recordsIn w) (k .among)) (k .inside) (k .phase)
           (sym (cell-of-its-number own (place-on p (k .r .report))) ∙ ap cellOfNumber (k .number) ∙ cell-of-its-number c on)
 
-      back : isUseful p c listed ≡ true → hasKey (keyAt p (curveNumber c)) (insideIn p) ≡ true
+      back : isUseful p c listed ≡ true → hasKey (keyAt (slotOf p) (curveNumber c)) (insideIn p) ≡ true
       back u =
           let a = useful-from query p c (heldIn w) u in
           let b = map-in (heldRecord (timeIn w)) (recordsIn w) (a .1) in
@@ -116,15 +112,14 @@ module _ (w : Words) (sound : Sound (w .store) (w .table)) (ask : Ask) (fit : Fi
           let phase : phaseOfRecord (timeIn w) r ≡ p = sym (ap (λ (h : Held). h .phase) same) ∙ a .3 in
           let inside : isInside query r ≡ true = sym (ap (λ (h : Held). isInside query (record { key = r .key; report = h .report })) same) ∙ a .2 in
           let place : placeIn p (r .report) ≡ c = sym (ap (λ (h : Held). placeIn p (h .report)) same) ∙ a .4 in
-          let key : r .key ≡ keyAt p (curveNumber c) =
+          let key : r .key ≡ keyAt (slotOf p) (curveNumber c) =
           float-at w sound ask fit (b .1) .placed .key-is ∙ ap (λ (k : ℕ). keyIn k (r .report)) phase ∙ number-key p (r .report) (curveNumber c) (ap curveNumber place) in
           let test = and-true (eqb (phaseOfRecord (timeIn w) r) p) (isInside query r) (eq-eqb (phaseOfRecord (timeIn w) r) p phase) inside in
           let m = passing-has (isInsideIn (timeIn w) query p) (recordsIn w) (b .1) test in
-          key-among (keyAt p (curveNumber c)) (insideIn p)
-          ∙ passes-some (λ (k : Record). eqZ (k .key) (keyAt p (curveNumber c))) (insideIn p) {a = r} m (is-same (r .key) (keyAt p (curveNumber c)) key)
+          passes-some (λ (k : Record). eqZ (k .key) (keyAt (slotOf p) (curveNumber c))) (insideIn p) {a = r} m (is-same (r .key) (keyAt (slotOf p) (curveNumber c)) key)
 
   -- the cell of a record inside is chosen: reading the chosen cells lists the record
-  key-is-chosen : (p n : ℕ) → isLive (phaseOf (timeIn w)) p ≡ true → n < cells → hasKey (keyAt p n) (insideIn p) ≡ true → List·Memᴰ (cellOfNumber n) (choiceOf w ask p .cells)
+  key-is-chosen : (p n : ℕ) → isLive (phaseOf (timeIn w)) p ≡ true → n < cells → hasKey (keyAt (slotOf p) n) (insideIn p) ≡ true → List·Memᴰ (cellOfNumber n) (choiceOf w ask p .cells)
   key-is-chosen p n live below h =
       let marks = marksIn w ask p in
       let k = that-key p n h in
@@ -132,7 +127,7 @@ module _ (w : Words) (sound : Sound (w .store) (w .table)) (ask : Ask) (fit : Fi
       let test = and-true (eqb (phaseOfRecord (timeIn w) r) p) (isInside query r) (eq-eqb (phaseOfRecord (timeIn w) r) p (k .phase)) (k .inside) in
       let m : List·Memᴰ r (listedOf w ask p) =
       rw (listed-of-phase w sound ask fit p live) (passing-has (isInsideIn (timeIn w) query p) (recordsIn w) (k .among) test) in
-      let read = passing-in (isRead marks (slotOf p) (isListed query)) (recordsIn w) (subst (λ (l : List Record). List·Memᴰ r l) (listed-is marks (slotOf p) (isListed query) (recordsIn w)) m) .1 in
+      let read = passing-in (isRead marks (slotOf p) (isListed query)) (recordsIn w) m .1 in
       let slot = eqb (slotOfKey (r .key)) (slotOf p) in
       let set = inSet marks (numberOfKey (r .key)) in
       let marked = and-right slot set (and-left (slot && set) (isInside query r) read) in
@@ -142,12 +137,12 @@ module _ (w : Words) (sound : Sound (w .store) (w .table)) (ask : Ask) (fit : Fi
       let on = choice-on (up (ask .method)) (rowsOfSlot (w .table) (slotOf p)) (aimIn p query) (c .1) in
       Memᴰ·cast (ap cellOfNumber (sym number ∙ c .2) ∙ cell-of-its-number (c .0) on) (c .1)
 
-  useful-in-phase : (p : ℕ) → isLive (phaseOf (timeIn w)) p ≡ true → counted (λ n. hasKey (keyAt p n) (insideIn p)) 0 cells ≡ usefulCells p listed (choiceOf w ask p .cells)
+  useful-in-phase : (p : ℕ) → isLive (phaseOf (timeIn w)) p ≡ true → counted (λ n. hasKey (keyAt (slotOf p) n) (insideIn p)) 0 cells ≡ usefulCells p listed (choiceOf w ask p .cells)
   useful-in-phase p live =
       let rows = rowsOfSlot (w .table) (slotOf p) in
       let aim = aimIn p query in
       cells-counted (λ c. isUseful p c listed) (choice-once (up (ask .method)) rows aim) (λ c m. choice-on (up (ask .method)) rows aim m)
-      (λ n. hasKey (keyAt p n) (insideIn p))
+      (λ n. hasKey (keyAt (slotOf p) n) (insideIn p))
       (λ c m. key-is-useful p c (choice-on (up (ask .method)) rows aim m))
       (λ n below h. key-is-chosen p n live below h)
       ∙ sym (useful-cells-are p listed (choiceOf w ask p .cells))
@@ -156,7 +151,7 @@ module _ (w : Words) (sound : Sound (w .store) (w .table)) (ask : Ask) (fit : Fi
   useful-counted =
       useful-counted-are w ask sound fit
       ∙ summed-same
-      (λ p. counted (λ n. hasKey (keyAt p n) (insideIn p)) 0 cells)
+      (λ p. counted (λ n. hasKey (keyAt (slotOf p) n) (insideIn p)) 0 cells)
       (λ p. usefulCells p listed (choiceOf w ask p .cells))
       (livePhases (phaseOf (timeIn w)))
       (λ p m. useful-in-phase p (listed-live (phaseOf (timeIn w)) p m))

@@ -4,6 +4,9 @@ use mathlib.Core.Path.{_≡_, refl, sym, ap, ap₂, _∙_}
 use mathlib.Core.Bool.{Bool, true, false, _||_, cond}
 use mathlib.Core.List.{List, [], _∷_, _++_, map, List·Memᴰ, List·Memᴰ·head, List·Memᴰ·tail, List·Memᴰ·cases-cons, List·Memᴰ·not-nil}
 use mathlib.Core.Logic.{⊎-elim}
+use Prim.Native.Nat.{suc, _≤_}
+use native.Mathlib.Omega.{arith}
+use lib.ListN.{length}
 unfoldable pub use Rattle.ints.specs.Lists.{passing, some, every}
 use Rattle.ints.proofs.Parts.{true-false}
 use Rattle.ints.proofs.Truth.{or-left, or-right, and-true, and-left, and-right}
@@ -77,6 +80,16 @@ pub passing-none : {A : Type 0} (f : A → Bool) (xs : List A) → ((a : A) → 
 unfolding passing
 passing-none f [] h = refl
 passing-none f (x ∷ xs) h = rw (h x (List·Memᴰ·head refl)) (passing-none f xs (λ a m. h a (List·Memᴰ·tail m)))
+
+-- they are no more than there are elements
+pub passing-few : {A : Type 0} (f : A → Bool) (xs : List A) → length (passing f xs) ≤ length xs
+unfolding passing
+passing-few f [] = omega arith
+passing-few f (a ∷ xs) = go (f a) (passing-few f xs)
+  where
+    go : (t : Bool) → length (passing f xs) ≤ length xs → length (cond t (a ∷ passing f xs) (passing f xs)) ≤ suc (length xs)
+    go true i = omega arith
+    go false i = omega arith
 
 -- of those that pass a test g, all that pass f, where f passes no element that g does not
 pub passing-twice : {A : Type 0} (f g : A → Bool) (xs : List A) → ((a : A) → f a ≡ true → g a ≡ true) → passing f (passing g xs) ≡ passing f xs

@@ -83,6 +83,15 @@ unfoldable pub counted : (ℕ → Bool) → ℕ → ℕ → ℕ
 counted f from zero = 0
 counted f from (suc n) = bit (f from) + counted f (suc from) n
 
+pub counted-few : (f : ℕ → Bool) (from n : ℕ) → counted f from n ≤ n
+unfolding counted
+counted-few f from zero = omega arith
+counted-few f from (suc n) = go (f from) (counted-few f (suc from) n)
+  where
+    go : (t : Bool) → counted f (suc from) n ≤ n → bit t + counted f (suc from) n ≤ suc n
+    go true h = omega arith
+    go false h = omega arith
+
 pub counted-same : (f g : ℕ → Bool) (from n : ℕ) → ((i : ℕ) → from ≤ i → i < from + n → f i ≡ g i) → counted f from n ≡ counted g from n
 unfolding counted
 counted-same f g from zero h = refl

@@ -35,3 +35,11 @@ pub or-swap : (a b c : Bool) → a || (b || c) ≡ b || (a || c)
 or-swap true true c = refl
 or-swap true false c = refl
 or-swap false b c = refl
+
+pub and-assoc : (a b c : Bool) → a && (b && c) ≡ (a && b) && c
+and-assoc true b c = refl
+and-assoc false b c = refl
+
+pub and-yes : (a : Bool) → a && true ≡ a
+and-yes true = refl
+and-yes false = refl

@@ -4,9 +4,9 @@
 use mathlib.Core.Path.{_≡_}
 use mathlib.Core.Bool.{Bool, _&&_, not, cond}
 use mathlib.Core.List.{List, [], _∷_}
-use Prim.Native.Nat.{ℕ, zero, suc, _+_, _*_, _≤_, _<_}
+use Prim.Native.Nat.{ℕ, zero, suc, _+_, _≤_, _<_}
 use lib.Dec.{eqb}
-use lib.IntN.{ℤ, pos}
+use lib.IntN.{ℤ}
 use lib.ListN.{length, getD, set}
 use Rattle.ints.specs.Whole.{up, eqZ, between}
 use Rattle.ints.specs.Lists.{passing, some}
@@ -14,7 +14,7 @@ use Rattle.grid.specs.Units.{cells, lastId, idMarks}
 use Rattle.grid.specs.Small.{SmallQuery}
 use Rattle.grid.specs.declared.Query.{Query}
 use Rattle.grid.specs.declared.Report.{Report}
-use Rattle.records.specs.Order.{slotOfKey, numberOfKey}
+use Rattle.records.specs.Order.{keyAt, slotOfKey, numberOfKey}
 use Rattle.records.specs.Soundness.{IsStore}
 use Rattle.records.specs.declared.Record.{Record}
 use Rattle.reading.specs.declared.Reading.{Reading}
@@ -48,7 +48,7 @@ hasKey key = some (λ r. eqZ (r .key) key)
 unfoldable pub usefulIn : ℕ → List Record → ℕ → ℕ → ℕ
 usefulIn slot listed number zero = 0
 usefulIn slot listed number (suc n) =
-    cond (hasKey (pos (slot * cells + number)) listed) 1 0 + usefulIn slot listed (suc number) n
+    cond (hasKey (keyAt slot number) listed) 1 0 + usefulIn slot listed (suc number) n
 
 -- the marks of ids with those of some records set
 unfoldable pub withIds : List ℕ → List Record → List ℕ

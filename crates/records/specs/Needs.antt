@@ -3,17 +3,23 @@
 use mathlib.Core.Path.{_≡_}
 use mathlib.Core.Bool.{true}
 use mathlib.Core.List.{List}
-use Prim.Native.Nat.{ℕ, _*_, _≤_}
+use Prim.Native.Nat.{ℕ, _*_, _≤_, _<_}
 use lib.IntN.{ℤ}
 use lib.ListN.{length}
+use Rattle.grid.specs.Units.{cells}
 use Rattle.grid.specs.Curve.{IsCurve}
 use Rattle.grid.specs.Reports.{isTime, inRange}
 use Rattle.grid.specs.declared.Report.{Report}
-use Rattle.rows.specs.Phases.{lastPhase}
+use Rattle.rows.specs.Phases.{slots, lastPhase}
 use Rattle.rows.specs.Table.{tableWords}
 use Rattle.records.specs.Records.{recordWords, storeWords, readRecords}
 use Rattle.records.specs.Soundness.{isSoundHeader, isRanged, allRanged}
 use Rattle.records.specs.declared.Record.{Record}
+
+-- a cell of one of the three slots
+pub record CellOfSlot (slot number : ℕ) : Type 0 where
+  pub one-of-three : slot < slots
+  pub within : number < cells
 
 -- a report whose key in a phase is asked for
 pub record CanKey (numbers : List ℕ) (p : ℕ) (r : Report) : Type 0 where

@@ -19,9 +19,13 @@ use Rattle.records.specs.declared.Record.{Record}
 abbrev pub lastKey : ℕ
 lastKey = slots * cells - 1
 
--- slot × 1,024 + curve number, of the cell of the float's position at the phase's reference time
+-- slot × 1,024 + curve number
+abbrev pub keyAt : ℕ → ℕ → ℤ
+keyAt slot number = pos (slot * cells + number)
+
+-- of the cell of the float's position at the phase's reference time
 unfoldable pub keyIn : ℕ → Report → ℤ
-keyIn p r = pos (slotOf p * cells + curveNumber (cellAtTime r (referenceTime p)))
+keyIn p r = keyAt (slotOf p) (curveNumber (cellAtTime r (referenceTime p)))
 
 -- the slot and the curve number of a key
 abbrev pub slotOfKey : ℤ → ℕ

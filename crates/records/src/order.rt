@@ -6,8 +6,8 @@ ghost use lib.ListN.{length};
 ghost use Rattle.ints.specs.Whole.{eqZ};
 ghost use Rattle.rows.specs.Phases.{phaseOf, livePhases};
 ghost use Rattle.records.specs.Records.{recordWords, readRecords};
-ghost use Rattle.records.specs.Order.{keyIn, slotOfKey, numberOfKey, phaseWithSlot, phaseOfKey, precedes, isSorted};
-ghost use Rattle.records.specs.Needs.{CanKey};
+ghost use Rattle.records.specs.Order.{keyAt, keyIn, slotOfKey, numberOfKey, phaseWithSlot, phaseOfKey, precedes, isSorted};
+ghost use Rattle.records.specs.Needs.{CellOfSlot, CanKey};
 use crate::RECORD_WORDS;
 use crate::Record;
 use grid::Report;
@@ -96,6 +96,14 @@ pub fn phase_at(t: i32) -> usize
     rows::phase_of(t as i64)
 }
 
+// The key of a cell of a slot.
+pub fn key_of(slot: usize, number: usize) -> i32
+    requires { ⌜ CellOfSlot slot number ⌝ }
+    ensures { λ r. ⌜ r ≡ keyAt slot number ⌝ }
+{
+    (slot * grid::CELLS + number) as i32
+}
+
 // The key of a report in phase p: the slot, and the curve number of the cell at the phase's reference time. 277,777 is the phase of the
 // last time. `numbers` is the grid's table of curve numbers.
 pub fn key_in(numbers: &[u16; grid::CELLS], p: usize, r: Report) -> i32
@@ -103,5 +111,5 @@ pub fn key_in(numbers: &[u16; grid::CELLS], p: usize, r: Report) -> i32
     ensures { λ k. ⌜ k ≡ keyIn p r ⌝ }
 {
     let number = grid::number_in(numbers, r.cell_at(rows::reference_time(p)));
-    (rows::slot_of(p) * grid::CELLS + number) as i32
+    key_of(rows::slot_of(p), number)
 }

@@ -1,18 +1,15 @@
 -- `records::order::key_in` meets its contract: the report is small, the cell is on the grid, and slot and curve number make a key of the three slots.
 -- Assumes nothing.
 use mathlib.Core.Path.{_≡_, _∙_, ap, ap₂}
-use Prim.Native.Nat.{_+_, _*_, _<_}
 use native.Mathlib.Omega.{arith}
-use lib.IntN.{pos}
 use mir.Syntax.{w32, w64}
-use Rattle.ints.proofs.Machine.{back, got, held, fits}
-use Rattle.grid.specs.Units.{cells}
+use Rattle.ints.proofs.Machine.{back, got, held}
 use Rattle.grid.specs.Curve.{curveNumber}
 use Rattle.grid.specs.Reports.{xAt, yAt, cellAtTime}
 use Rattle.grid.proofs.PlacesLaws.{cell-on}
 use Rattle.rows.specs.Phases.{referenceTime}
 use Rattle.rows.proofs.PhasesLaws.{slot-on}
-use Rattle.records.specs.Order.{keyIn}
+use Rattle.records.specs.Order.{keyAt, keyIn}
 use Rattle.records.proofs.RangeLaws.{small-report}
 use Rattle.records.proofs.KeyLaws.{cell-number-below}
 use borrow.Author.Needs.{needs}
@@ -46,36 +43,20 @@ module _ (c : tie.After-slot-of) where
   number-is : c .before .number-in .result ≡ curveNumber (cellAtTime (c .before .before .before .before .args .r) (referenceTime (c .before .before .before .before .args .p)))
   number-is = c .before .number-in .ensures ∙ ap curveNumber (cell-is (c .before .before))
 
-  key-small : c .slot-of .result * cells + c .before .number-in .result < 3072
-  key-small =
-      let a = c .before .before .before .before .args in
-      omega (arith, c .slot-of .ensures, number-is, slot-on (a .p), cell-number-below (a .r) (referenceTime (a .p)))
-
-mul-result : tie.Need-mul-result
-mul-result c = let h = key-small c in omega arith
-
-add-result : tie.Need-add-result
-add-result c = let h = key-small c in omega arith
-
-cast-result : tie.Need-cast-result
-cast-result c = let h = key-small c in fits (omega arith)
+key-of-requires : tie.Need-key-of-requires
+key-of-requires c κs =
+    let a = c .before .before .before .before .args in
+    record {
+      one-of-three = omega (arith, c .slot-of .ensures, slot-on (a .p));
+      within = omega (arith, number-is c, cell-number-below (a .r) (referenceTime (a .p)));
+    }
 
 returns : tie.Need-returns
 unfolding keyIn
 returns c =
-    let h = key-small c in
-    held w32 (pos (c .slot-of .result * cells + c .before .number-in .result)) (omega arith)
-    ∙ ap pos (ap₂ (λ s n. s * cells + n) (c .slot-of .ensures) (number-is c))
+    let s = c .before in
+    held w32 (c .key-of .result) (search needs) ∙ c .key-of .ensures ∙ ap₂ keyAt (s .slot-of .ensures) (number-is s)
 
 pub key-in-spec : {M : Type 1} → statement M
 key-in-spec =
-    tie.close
-    (tie.spec
-    reference-time-requires
-    cell-at-requires
-    number-in-requires
-    slot-of-requires
-    mul-result
-    add-result
-    cast-result
-    returns)
+    tie.close (tie.spec reference-time-requires cell-at-requires number-in-requires slot-of-requires key-of-requires returns)
