@@ -5,7 +5,7 @@ use mathlib.Core.List.{List, [], _∷_, _++_, append-assoc, append-nil}
 use Prim.Native.Nat.{ℕ, suc, _+_, _≤_, _<_}
 use native.Mathlib.Nat.{add-zero, zero-add}
 use native.Mathlib.Omega.{arith}
-use lib.ListN.{length, take, drop, set, length-append, length-set, length-take, length-drop, take-append-drop}
+use lib.ListN.{length, take, drop, set, length-append, length-set, length-take, take-append-drop}
 use lib.Seq.{take-set-le, drop-set-lt, drop-cons, getD-set-same, take-at, drop-append-add, drop-drop}
 use Rattle.fields.specs.Put.{put}
 
@@ -25,10 +25,6 @@ module _ (out : List ℕ) (at : ℕ) where
 
     length-front : at ≤ length out → length front ≡ end
     length-front h = simp (length-append, length-take) (omega arith)
-
-    pub length-put : end ≤ length out → length (put out at xs) ≡ length out
-    unfolding put
-    length-put h = simp (length-append, length-take, length-drop) (omega arith)
 
     rest : (b : ℕ) → end < length out → drop end (set out end b) ≡ b ∷ drop (suc end) out
     rest b h =

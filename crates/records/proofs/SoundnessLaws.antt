@@ -19,15 +19,13 @@ use Rattle.ints.proofs.Truth.{and-true, and-left, and-right}
 use Rattle.ints.proofs.Same.{same-is, is-same}
 use Rattle.grid.specs.Units.{capacity}
 use Rattle.grid.specs.Reports.{isTime, inRange}
-use Rattle.rows.specs.Row.{validRow}
-use Rattle.rows.specs.Table.{tableWords, rowAt, validTable}
-use Rattle.rows.proofs.TableLaws.{valid-row-at}
+use Rattle.rows.specs.Table.{tableWords, validTable}
 use Rattle.records.specs.Records.{recordWords, storeWords, nowOf, heldOf, readRecords, recordsOf, wordsOfAll, header, storeOf}
-use Rattle.records.specs.Order.{slotOfKey, numberOfKey, isSorted}
-use Rattle.records.specs.Soundness.{allZero, keyIsRight, isSoundRecord, allSound, idsDistinct, isSoundHeader, isSoundStore, inOwnRow, speedsInRows, isSound, isRanged, allRanged, IsStore}
+use Rattle.records.specs.Order.{isSorted}
+use Rattle.records.specs.Soundness.{allZero, keyIsRight, isSoundRecord, allSound, idsDistinct, isSoundHeader, isSoundStore, speedsInRows, isSound, isRanged, allRanged, IsStore}
 use Rattle.records.specs.declared.Record.{Record}
 use Rattle.records.proofs.RecordsLaws.{words-length, now-of-store, records-of-store, store-length, held-records, written-read}
-use Rattle.records.proofs.RangeLaws.{From, between-from, from-between, earlier-time, parts-ranged, slot-below, number-of-key-below}
+use Rattle.records.proofs.RangeLaws.{From, between-from, from-between, earlier-time, parts-ranged}
 use Rattle.records.proofs.KeyLaws.{Placed, right-placed}
 
 -- ---- words that are zero
@@ -286,22 +284,3 @@ parts-sound now rs t few time sound sorted distinct long valid speeds =
     _
     (and-true _ _ (eq-eqb (length t) tableWords long) valid)
     (ap (speedsInRows t) (records-of-store now rs) ∙ speeds))
-
--- ---- a float of a sound store with its table
-
-pub record HeldFloat (s t : List ℤ) (r : Record) : Type 0 where
-  pub sound : SoundRecord (nowOf s) r
-  pub ranged : isRanged r ≡ true
-  pub row-valid : validRow (rowAt t (slotOfKey (r .key)) (numberOfKey (r .key))) ≡ true
-  pub row-holds : inOwnRow t r ≡ true
-
-pub held-float : (s t : List ℤ) → Sound s t → (r : Record) → List·Memᴰ r (recordsOf s) → HeldFloat s t r
-held-float s t h r m =
-    let sound = all-sound-each (nowOf s) (recordsOf s) (h .store .sound) r m in
-    let ranged = sound-ranged (nowOf s) r (h .store .time) (record-sound (nowOf s) r (sound .in-range) (sound .not-after) (sound .key-right)) in
-    record {
-      sound = sound;
-      ranged = ranged;
-      row-valid = valid-row-at t (h .valid) (slotOfKey (r .key)) (numberOfKey (r .key)) (slot-below r ranged) (number-of-key-below (r .key));
-      row-holds = every-each (inOwnRow t) (recordsOf s) (h .speeds) m;
-    }

@@ -65,7 +65,7 @@ module _ (w : Words) (time : ℤ) (can : CanStep w time) where
     all-stay : (r : Record) → List·Memᴰ r records → stays now time r ≡ true
     all-stay r m =
         ap (λ (p : ℕ). isLive p (phaseOfKey from (r .key))) same
-        ∙ right-placed now r (Sound.held-float (w .store) (w .table) is-sound r m .sound .key-right) .live
+        ∙ right-placed now r (Sound.all-sound-each now records (is-sound .store .sound) r m .key-right) .live
 
     none-moves : replaced to (moves now time) records ≡ []
     none-moves =
