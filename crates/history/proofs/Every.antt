@@ -48,9 +48,9 @@ use Rattle.history.proofs.Steps.{clock-same, clock-left, checks, change
 -- ---- open
 
 -- all three slots emptied
-module _ (t : List ℤ) (sized : length t ≡ tableWords) where
+module _ (table : List ℤ) (sized : length table ≡ tableWords) where
   abbrev first : List ℤ
-  first = withSlotEmpty t 0
+  first = withSlotEmpty table 0
 
   abbrev second : List ℤ
   second = withSlotEmpty first 1
@@ -59,7 +59,7 @@ module _ (t : List ℤ) (sized : length t ≡ tableWords) where
   third = withSlotEmpty second 2
 
   first-long : length first ≡ tableWords
-  first-long = length-slot-empty t 0 sized (omega arith) ∙ sized
+  first-long = length-slot-empty table 0 sized (omega arith) ∙ sized
 
   second-long : length second ≡ tableWords
   second-long = length-slot-empty first 1 first-long (omega arith) ∙ first-long
@@ -71,7 +71,7 @@ module _ (t : List ℤ) (sized : length t ≡ tableWords) where
   all-empty zero n h k =
       row-kept second 2 second-long (omega arith) 0 n k (λ e. omega arith)
       ∙ row-kept first 1 first-long (omega arith) 0 n k (λ e. omega arith)
-      ∙ row-emptied t 0 sized (omega arith) n k
+      ∙ row-emptied table 0 sized (omega arith) n k
   all-empty (suc zero) n h k =
       row-kept second 2 second-long (omega arith) 1 n k (λ e. omega arith)
       ∙ row-emptied first 1 first-long (omega arith) n k

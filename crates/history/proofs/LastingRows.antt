@@ -55,34 +55,35 @@ use Rattle.history.proofs.Steps.{step-later}
 -- ---- rows of a table that is widened
 
 one-widened :
-    (t : List ℤ) (r : Record) (slot number : ℕ)
-    → length t ≡ tableWords
+    (table : List ℤ) (r : Record) (slot number : ℕ)
+    → length table ≡ tableWords
     → slot < slots
     → number < cells
-    → Within (rowAt t slot number) (rowAt (widenedBy t r) slot number)
-one-widened t r slot number sized on here =
+    → Within (rowAt table slot number) (rowAt (widenedBy table r) slot number)
+one-widened table r slot number sized on here =
     let k = slotOfKey (r .key) in
     let n = numberOfKey (r .key) in
     let below = number-of-key-below (r .key) in
-    let new = widened (rowAt t k n) (driftOf (r .report)) in
+    let new = widened (rowAt table k n) (driftOf (r .report)) in
     dite (ℕ-discrete slot k)
     (λ (e : slot ≡ k).
     dite (ℕ-discrete number n)
     (λ (f : number ≡ n).
     let there : k < slots = omega arith in
-    rw (e, f, row-written t k n new sized there below) (within-joined-left (rowAt t k n) (ownRow r)))
-    (λ f. rw (row-other t k n new slot number below here (inr f)) (within-refl (rowAt t slot number))))
-    (λ e. rw (row-other t k n new slot number below here (inl e)) (within-refl (rowAt t slot number)))
+    rw (e, f, row-written table k n new sized there below) (within-joined-left (rowAt table k n) (ownRow r)))
+    (λ f. rw (row-other table k n new slot number below here (inr f)) (within-refl (rowAt table slot number))))
+    (λ e. rw (row-other table k n new slot number below here (inl e)) (within-refl (rowAt table slot number)))
 
-all-widened : (t : List ℤ) (rs : List Record) (slot number : ℕ) → length t ≡ tableWords → slot < slots → number < cells → Within (rowAt t slot number) (rowAt (widenedByAll t rs) slot number)
+all-widened : (table : List ℤ) (rs : List Record) (slot number : ℕ) → length table ≡ tableWords → slot < slots → number < cells
+    → Within (rowAt table slot number) (rowAt (widenedByAll table rs) slot number)
 unfolding widenedByAll
-all-widened t [] slot number sized on here = within-refl (rowAt t slot number)
-all-widened t (r ∷ rs) slot number sized on here =
+all-widened table [] slot number sized on here = within-refl (rowAt table slot number)
+all-widened table (r ∷ rs) slot number sized on here =
     let k = slotOfKey (r .key) in
     let n = numberOfKey (r .key) in
     within-trans
-    (one-widened t r slot number sized on here)
-    (all-widened (widenedBy t r) rs slot number (length-with-row t k n (widened (rowAt t k n) (driftOf (r .report))) ∙ sized) on here)
+    (one-widened table r slot number sized on here)
+    (all-widened (widenedBy table r) rs slot number (length-with-row table k n (widened (rowAt table k n) (driftOf (r .report))) ∙ sized) on here)
 
 -- ---- one call
 

@@ -55,18 +55,18 @@ speeds-valid now p c ps each r m =
     let g = each a (from .1) in
     ap validRow (from .2) ∙ ranged-valid (drift-ranged (a .drift) (g .in-range))
 
-pub table-valid : (l : Ledger) (t : List ℤ) → Good l → TableMatches l t → (slot n : ℕ) → slot < slots → n < cells → validRow (rowAt t slot n) ≡ true
+pub table-valid : (l : Ledger) (table : List ℤ) → Good l → TableMatches l table → (slot n : ℕ) → slot < slots → n < cells → validRow (rowAt table slot n) ≡ true
 unfolding rowsIn
-table-valid l t good table slot n h k = ⊎-elim live none (slot-cases (phaseOf (l .now)) slot h)
+table-valid l table good matches slot n h k = ⊎-elim live none (slot-cases (phaseOf (l .now)) slot h)
   where
-    live : (p : ℕ) × (isLive (phaseOf (l .now)) p ≡ true) × (slotOf p ≡ slot) → validRow (rowAt t slot n) ≡ true
+    live : (p : ℕ) × (isLive (phaseOf (l .now)) p ≡ true) × (slotOf p ≡ slot) → validRow (rowAt table slot n) ≡ true
     live e =
-        ap (λ (x : ℕ). validRow (rowAt t x n)) (sym (e .2))
-        ∙ ap validRow (table .rows-are (e .0) (e .1) n k)
+        ap (λ (x : ℕ). validRow (rowAt table x n)) (sym (e .2))
+        ∙ ap validRow (matches .rows-are (e .0) (e .1) n k)
         ∙ bounds-valid (speedsPlaced (e .0) (cellOfNumber n) (l .placements)) (speeds-valid (l .now) (e .0) (cellOfNumber n) (l .placements) (good .places))
 
-    none : ((p : ℕ) → isLive (phaseOf (l .now)) p ≡ true → slotOf p ≡ slot → ⊥) → validRow (rowAt t slot n) ≡ true
-    none far = ap validRow (table .rest-empty slot n h k far) ∙ empty-valid
+    none : ((p : ℕ) → isLive (phaseOf (l .now)) p ≡ true → slotOf p ≡ slot → ⊥) → validRow (rowAt table slot n) ≡ true
+    none far = ap validRow (matches .rest-empty slot n h k far) ∙ empty-valid
 
 -- ---- a report placed in a phase lies in a row of the table exactly where the ledger places it in that row's phase and cell
 
@@ -141,7 +141,7 @@ bounds-alike now time p n (h ∷ hs) each live k =
         ∙ ap boundsOf (sym (map-passing ownRow (isThere p (cellOfNumber n)) new (newPlacements time hs)))
     go false = refl
 
-module _ (l : Ledger) (t : List ℤ) (time : ℤ) (good : Good l) (table : TableMatches l t) (is-time : isTime time ≡ true) (later : leZ (l .now) time ≡ true) where
+module _ (l : Ledger) (table : List ℤ) (time : ℤ) (good : Good l) (matches : TableMatches l table) (is-time : isTime time ≡ true) (later : leZ (l .now) time ≡ true) where
   abbrev c : ℕ
   c = phaseOf (l .now)
 
@@ -149,7 +149,7 @@ module _ (l : Ledger) (t : List ℤ) (time : ℤ) (good : Good l) (table : Table
   c′ = phaseOf time
 
   abbrev emptied : List ℤ
-  emptied = withNewlyLiveEmpty t c c′
+  emptied = withNewlyLiveEmpty table c c′
 
   abbrev anew : List Record
   anew = replaced c′ (moves (l .now) time) (recordsOfHeld (l .held))
@@ -158,7 +158,7 @@ module _ (l : Ledger) (t : List ℤ) (time : ℤ) (good : Good l) (table : Table
   not-earlier = phases-grow (l .now) time later
 
   long : length emptied ≡ tableWords
-  long = length-newly-live-empty t c c′ (table .table-long)
+  long = length-newly-live-empty table c c′ (matches .table-long)
 
   each-placeable : (r : Record) → List·Memᴰ r anew → Placeable r
   each-placeable r m =
@@ -180,15 +180,15 @@ module _ (l : Ledger) (t : List ℤ) (time : ℤ) (good : Good l) (table : Table
     kept-row =
         dite (decLt c p)
         (λ newly.
-        newly-live-emptied t c c′ (table .table-long) p n live here newly
+        newly-live-emptied table c c′ (matches .table-long) p n live here newly
         ∙ sym (ap boundsOf (speeds-live time p (cellOfNumber n) (l .placements) live
         ∙ no-speeds p (cellOfNumber n) (l .placements) (λ a m e. let r = live-range c (a .phase) (good .places a m .live) in omega arith))))
         (λ n₂.
         let before : p ≤ c = omega arith in
         let range = live-range c′ p live in
         let was : isLive c p ≡ true = range-live c p before (omega (arith, not-earlier)) in
-        earlier-live-kept t c c′ (table .table-long) p n live here before
-        ∙ table .rows-are p was n here
+        earlier-live-kept table c c′ (matches .table-long) p n live here before
+        ∙ matches .rows-are p was n here
         ∙ sym (ap boundsOf (speeds-live time p (cellOfNumber n) (l .placements) live)))
 
     good-after : (a : Placement) → List·Memᴰ a (livePlacements time (l .placements) ++ newPlacements time (l .held)) → GoodPlacement time a
@@ -211,7 +211,7 @@ module _ (l : Ledger) (t : List ℤ) (time : ℤ) (good : Good l) (table : Table
   rest-stepped slot n h here far =
       let was : (q : ℕ) → isLive c q ≡ true → slotOf q ≡ slot → ⊥ =
       λ q live e. let range = live-range c q live in let s = phase-in-slot c′ q (omega (arith, not-earlier)) in far (s .0) (s .1) (s .2 ∙ e) in
-      let empty = other-slot-kept t c c′ slot n (table .table-long) here far ∙ table .rest-empty slot n h here was in
+      let empty = other-slot-kept table c c′ slot n (matches .table-long) here far ∙ matches .rest-empty slot n h here was in
       row-with-speeds emptied anew slot n long each-placeable here (ap validRow empty ∙ empty-valid)
       ∙ ap₂ (λ (x : Row) (s : List Row). joined x (boundsOf s)) empty (none-elsewhere c′ (moves (l .now) time) slot n (recordsOfHeld (l .held)) (far c′ (current-live c′)))
       ∙ joined-same emptyRow
@@ -223,7 +223,7 @@ module _ (l : Ledger) (t : List ℤ) (time : ℤ) (good : Good l) (table : Table
 
 -- ---- a report placed in the current phase
 
-module _ (l : Ledger) (t : List ℤ) (r : Report) (good : Good l) (table : TableMatches l t) (ranged : inRange r ≡ true) where
+module _ (l : Ledger) (table : List ℤ) (r : Report) (good : Good l) (matches : TableMatches l table) (ranged : inRange r ≡ true) where
   abbrev now : ℕ
   now = phaseOf (l .now)
 
@@ -240,29 +240,29 @@ module _ (l : Ledger) (t : List ℤ) (r : Report) (good : Good l) (table : Table
       ∙ ap (λ (b : Bool). cond b (rowOfDrift (driftOf r) ∷ []) []) (placed-alike now p now n r live (current-live now) here)
       ∙ sym (map-passing ownRow (isThere p (cellOfNumber n)) (placement now r) [])
 
-  row-placed : (p : ℕ) → isLive now p ≡ true → (n : ℕ) → n < cells → rowAt (widenedByAll t one) (slotOf p) n ≡ boundsOf (speedsPlaced p (cellOfNumber n) (l .placements ++ placement now r ∷ []))
+  row-placed : (p : ℕ) → isLive now p ≡ true → (n : ℕ) → n < cells → rowAt (widenedByAll table one) (slotOf p) n ≡ boundsOf (speedsPlaced p (cellOfNumber n) (l .placements ++ placement now r ∷ []))
   unfolding rowsIn
   row-placed p live n here =
       let one-good : (a : Placement) → List·Memᴰ a (placement now r ∷ []) → GoodPlacement (l .now) a =
       λ a m. subst (GoodPlacement (l .now)) (sym (List·Memᴰ·eq-of-singleton m)) (good-placement (l .now) r ranged) in
-      row-with-speeds t one (slotOf p) n (table .table-long) one-placeable here (table-valid l t good table (slotOf p) n (slot-on p) here)
-      ∙ ap₂ (λ (x : Row) (s : List Row). joined x (boundsOf s)) (table .rows-are p live n here) (speeds-alike p n live here)
+      row-with-speeds table one (slotOf p) n (matches .table-long) one-placeable here (table-valid l table good matches (slotOf p) n (slot-on p) here)
+      ∙ ap₂ (λ (x : Row) (s : List Row). joined x (boundsOf s)) (matches .rows-are p live n here) (speeds-alike p n live here)
       ∙ sym (bounds-append (speedsPlaced p (cellOfNumber n) (l .placements)) (speedsPlaced p (cellOfNumber n) (placement now r ∷ []))
       (speeds-valid (l .now) p (cellOfNumber n) (placement now r ∷ []) one-good))
       ∙ sym (ap boundsOf (speeds-append p (cellOfNumber n) (l .placements) (placement now r ∷ [])))
 
-  rest-placed : (slot n : ℕ) → slot < slots → n < cells → ((p : ℕ) → isLive now p ≡ true → slotOf p ≡ slot → ⊥) → rowAt (widenedByAll t one) slot n ≡ emptyRow
+  rest-placed : (slot n : ℕ) → slot < slots → n < cells → ((p : ℕ) → isLive now p ≡ true → slotOf p ≡ slot → ⊥) → rowAt (widenedByAll table one) slot n ≡ emptyRow
   unfolding boundsOf speedsAt passing
   rest-placed slot n h here far =
-      let empty = table .rest-empty slot n h here far in
+      let empty = matches .rest-empty slot n h here far in
       let other : eqb (slotOfKey (keyIn now r)) slot ≡ false =
       ne-eqb (slotOfKey (keyIn now r)) slot (λ e. far now (current-live now) (sym (slot-of-key-in now r) ∙ e)) in
       let none : speedsAt slot n one ≡ [] = rw other in
-      row-with-speeds t one slot n (table .table-long) one-placeable here (ap validRow empty ∙ empty-valid)
+      row-with-speeds table one slot n (matches .table-long) one-placeable here (ap validRow empty ∙ empty-valid)
       ∙ ap₂ (λ (x : Row) (s : List Row). joined x (boundsOf s)) empty none
       ∙ joined-same emptyRow
 
-  pub report-table : TableMatches (withReport r l) (widenedByAll t one)
+  pub report-table : TableMatches (withReport r l) (widenedByAll table one)
   unfolding withReport rowsIn
   report-table =
-      record { table-long = with-speeds-length t one ∙ table .table-long; rows-are = row-placed; rest-empty = rest-placed }
+      record { table-long = with-speeds-length table one ∙ matches .table-long; rows-are = row-placed; rest-empty = rest-placed }

@@ -56,10 +56,10 @@ pub record Good (l : Ledger) : Type 0 where
   pub places : (a : Placement) → List·Memᴰ a (l .placements) → GoodPlacement (l .now) a
 
 -- the rows of the live phases are the ledger's, and any other row is empty
-pub record TableMatches (l : Ledger) (t : List ℤ) : Type 0 where
-  pub table-long : length t ≡ tableWords
-  pub rows-are : (p : ℕ) → isLive (phaseOf (l .now)) p ≡ true → (n : ℕ) → n < cells → rowAt t (slotOf p) n ≡ rowsIn l p (cellOfNumber n)
-  pub rest-empty : (slot n : ℕ) → slot < slots → n < cells → ((p : ℕ) → isLive (phaseOf (l .now)) p ≡ true → slotOf p ≡ slot → ⊥) → rowAt t slot n ≡ emptyRow
+pub record TableMatches (l : Ledger) (table : List ℤ) : Type 0 where
+  pub table-long : length table ≡ tableWords
+  pub rows-are : (p : ℕ) → isLive (phaseOf (l .now)) p ≡ true → (n : ℕ) → n < cells → rowAt table (slotOf p) n ≡ rowsIn l p (cellOfNumber n)
+  pub rest-empty : (slot n : ℕ) → slot < slots → n < cells → ((p : ℕ) → isLive (phaseOf (l .now)) p ≡ true → slotOf p ≡ slot → ⊥) → rowAt table slot n ≡ emptyRow
 
 pub record Matches (l : Ledger) (w : Words) : Type 0 where
   pub can-change : CanChange w

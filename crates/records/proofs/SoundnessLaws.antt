@@ -242,39 +242,39 @@ store-sound now rs few time sound sorted distinct =
 
 -- ---- a store with its table
 
-pub record Sound (s t : List ℤ) : Type 0 where
+pub record Sound (s table : List ℤ) : Type 0 where
   pub store : SoundStore s
-  pub table-long : length t ≡ tableWords
-  pub valid : validTable t ≡ true
-  pub speeds : speedsInRows t (recordsOf s) ≡ true
+  pub table-long : length table ≡ tableWords
+  pub valid : validTable table ≡ true
+  pub speeds : speedsInRows table (recordsOf s) ≡ true
 
-pub sound-parts : (s t : List ℤ) → isSound s t ≡ true → Sound s t
+pub sound-parts : (s table : List ℤ) → isSound s table ≡ true → Sound s table
 unfolding isSound
-sound-parts s t h =
-    let long = eqb (length t) tableWords in
-    let speeds = speedsInRows t (recordsOf s) in
-    let table = and-right (isSoundStore s) ((long && validTable t) && speeds) h in
-    let rows = and-left (long && validTable t) speeds table in
+sound-parts s table h =
+    let long = eqb (length table) tableWords in
+    let speeds = speedsInRows table (recordsOf s) in
+    let rest = and-right (isSoundStore s) ((long && validTable table) && speeds) h in
+    let rows = and-left (long && validTable table) speeds rest in
     record {
-      store = sound-store s (and-left (isSoundStore s) ((long && validTable t) && speeds) h);
-      table-long = eqb-true (length t) tableWords (and-left long (validTable t) rows);
-      valid = and-right long (validTable t) rows;
-      speeds = and-right (long && validTable t) speeds table;
+      store = sound-store s (and-left (isSoundStore s) ((long && validTable table) && speeds) h);
+      table-long = eqb-true (length table) tableWords (and-left long (validTable table) rows);
+      valid = and-right long (validTable table) rows;
+      speeds = and-right (long && validTable table) speeds rest;
     }
 
 pub parts-sound :
-    (now : ℤ) (rs : List Record) (t : List ℤ)
+    (now : ℤ) (rs : List Record) (table : List ℤ)
     → length rs ≤ capacity
     → isTime now ≡ true
     → allSound now rs ≡ true
     → isSorted rs ≡ true
     → idsDistinct rs ≡ true
-    → length t ≡ tableWords
-    → validTable t ≡ true
-    → speedsInRows t rs ≡ true
-    → isSound (storeOf now rs) t ≡ true
+    → length table ≡ tableWords
+    → validTable table ≡ true
+    → speedsInRows table rs ≡ true
+    → isSound (storeOf now rs) table ≡ true
 unfolding isSound
-parts-sound now rs t few time sound sorted distinct long valid speeds =
+parts-sound now rs table few time sound sorted distinct long valid speeds =
     and-true
     _
     _
@@ -282,5 +282,5 @@ parts-sound now rs t few time sound sorted distinct long valid speeds =
     (and-true
     _
     _
-    (and-true _ _ (eq-eqb (length t) tableWords long) valid)
-    (ap (speedsInRows t) (records-of-store now rs) ∙ speeds))
+    (and-true _ _ (eq-eqb (length table) tableWords long) valid)
+    (ap (speedsInRows table) (records-of-store now rs) ∙ speeds))
