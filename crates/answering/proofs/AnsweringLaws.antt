@@ -15,7 +15,7 @@ use Rattle.ints.proofs.Parts.{true-false}
 use Rattle.records.specs.Words.{Words, timeIn, areSound}
 use Rattle.records.specs.declared.Record.{Record}
 use Rattle.words.specs.Words.{opened}
-use Rattle.words.proofs.PlacedLaws.{opened-records}
+use Rattle.words.proofs.WordsPlacedLaws.{opened-records}
 use Rattle.ledger.specs.Answers.{refusalNumber, refusalValue, isAccepted}
 use Rattle.ledger.specs.Refusals.{check, firstToFail, badAskTime, badAsk}
 use Rattle.ledger.specs.Machine as Ledger
@@ -33,10 +33,11 @@ use Rattle.ledger.specs.declared.Verdict.{Verdict}
 use Rattle.ledger.specs.declared.Verdict.the-variants.{Passed, Failed}
 use Rattle.ledger.proofs.RefusalsLaws.{passes, first-passed, others-passed}
 use Rattle.asking.specs.Asking.{idsNeeded, askSettled}
-use Rattle.engine.specs.Index.{wrongLength, unsound, openChecks, checksOf, settled, openOut, clockOut, changeOut, askOut, callOut}
+use Rattle.engine.specs.Index.{settled, openOut, clockOut, changeOut, askOut, callOut}
+use Rattle.engine.specs.Checks.{wrongLength, unsound, openChecks, checksOf}
 use Rattle.engine.specs.Gives.{Gives, GivesCall}
 use Rattle.engine.proofs.ChecksLaws.{right-length}
-use Rattle.engine.proofs.SmallAnswers.{SmallAnswer, call-small}
+use Rattle.engine.proofs.IndexSmallLaws.{SmallAnswer, call-small}
 use Rattle.history.specs.Index as H
 use Rattle.history.specs.Index.{LentCall, fed, idsWritten}
 use Rattle.history.specs.Points.{Point}
@@ -46,7 +47,7 @@ use Rattle.fields.specs.Numbers.{areWritable}
 use Rattle.lines.specs.Lines.{letterOf, Written}
 use Rattle.answers.specs.Answers.{answerLine, noCallLine, AnswerRoom}
 use Rattle.lines.specs.Reading.{readLine}
-use Rattle.fields.proofs.NumberLaws.{pos-writable, none-writable, more-writable}
+use Rattle.fields.proofs.NumbersLaws.{pos-writable, none-writable, more-writable}
 use Rattle.lines.specs.declared.Line.the-variants as Line
 use Rattle.answering.specs.Replay.{newline, listLength, fedOf, told, answerTo, next}
 use Rattle.answering.specs.Answering.{longestAnswer, AtPoint, idsTold, Answers, AnswersLine}

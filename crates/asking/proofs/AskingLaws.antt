@@ -27,7 +27,7 @@ use Rattle.records.specs.Words.{Words, timeIn, recordsIn}
 use Rattle.records.specs.Soundness.{IsStore}
 use Rattle.records.specs.declared.Record.{Record}
 use Rattle.records.proofs.SoundnessLaws as Sound
-use Rattle.records.proofs.RangeLaws.{between-from, last-phase}
+use Rattle.records.proofs.SoundnessRangeLaws.{between-from, last-phase}
 use Rattle.reading.specs.Reading.{ReadingOf, SmallReading, listedIn, cellsIn, usefulIn, withIds, rising}
 use Rattle.reading.specs.declared.Reading.{Reading}
 use Rattle.reading.proofs.ListedLaws.{few-listed, cells-few, few-useful}
@@ -45,8 +45,8 @@ use Rattle.asking.specs.Asking.{AskOutcome, GivesList}
 use Rattle.asking.specs.Counted.{CanAsk, noIds, roomChecks, settledByRoom, CanChooseIn, CanReadIn, ReadIn}
 use Rattle.asking.specs.Counted.{SmallCounts, CountedTogether, CountedIn, CountedOver}
 use Rattle.asking.specs.declared.Counts.{Counts}
-use Rattle.asking.proofs.PhaseReadingLaws.{FitAsk, fit-ask, good-method, asked-in}
-use Rattle.asking.proofs.ListIsExact.{list-is-exact}
+use Rattle.asking.proofs.AskingPhasesLaws.{FitAsk, fit-ask, good-method, asked-in}
+use Rattle.asking.proofs.Claims.{list-is-exact}
 
 module _ (w : Words) (ask : Ask) (can : CanAsk w ask) where
   parts : Sound.Sound (w .store) (w .table)

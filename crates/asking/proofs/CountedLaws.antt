@@ -22,9 +22,9 @@ use Rattle.records.specs.declared.Record.{Record}
 use Rattle.records.proofs.SoundnessLaws.{Sound}
 use Rattle.reading.proofs.ListedLaws.{cells-are, useful-are}
 use Rattle.ledger.specs.Machine.{summed}
-use Rattle.ledger.proofs.SummedLaws.{summed-same}
+use Rattle.ledger.proofs.MachineSummedLaws.{summed-same}
 use Rattle.asking.specs.Asking.{choiceOf, marksIn, listedOf, cellsCounted, usefulCounted}
-use Rattle.asking.proofs.PhaseReadingLaws.{FitAsk, isInsideIn, listed-of-phase}
+use Rattle.asking.proofs.AskingPhasesLaws.{FitAsk, isInsideIn, listed-of-phase}
 
 module _ (w : Words) (ask : Ask) where
   pub cells-counted-are : cellsCounted w ask ≡ summed (λ p. length (choiceOf w ask p .cells)) (livePhases (phaseOf (timeIn w)))

@@ -1,4 +1,4 @@
-pub mod PhaseReadingLaws
+pub mod AskingPhasesLaws
 pub mod CountedLaws
-pub mod ListIsExact
+pub mod Claims
 pub mod AskingLaws

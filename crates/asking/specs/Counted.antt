@@ -62,8 +62,8 @@ abbrev pub settledByRoom : Words → Ask → List ℕ → AskOutcome
 settledByRoom w ask list = askSettled (firstToFail (roomChecks (length list) (idsNeeded w ask))) w ask list
 
 -- rows, a method and a query that a choice in phase p can be made by
-pub record CanChooseIn (t : List ℤ) (ask : Ask) (p : ℕ) : Type 0 where
-  pub slot : IsSlot t (slotOf p)
+pub record CanChooseIn (table : List ℤ) (ask : Ask) (p : ℕ) : Type 0 where
+  pub slot : IsSlot table (slotOf p)
   pub can-see : CanSee (ask .query) p
   pub is-ask : IsAsk (sliceOf p (ask .query))
   pub good-method : between (pos 0) (pos 3) (ask .method) ≡ true

@@ -20,12 +20,14 @@ use Rattle.ledger.specs.declared.Verdict.{Verdict}
 use Rattle.ledger.specs.declared.Verdict.the-variants.{Passed, Failed}
 use Rattle.ledger.proofs.Claims.{refusals-are-plain}
 use Rattle.asking.specs.Asking.{askSettled}
-use Rattle.engine.specs.Index.{checksOf, settled, openOut, clockOut, changeOut, askOut, leavingList, leavingWords, callOut}
+use Rattle.engine.specs.Index.{settled, openOut, clockOut, changeOut, askOut, leavingList, leavingWords, callOut}
+use Rattle.engine.specs.Checks.{checksOf}
 use Rattle.history.specs.Index as Index
 use Rattle.history.specs.Index.{LentCall, fedAll, idsWritten}
 use Rattle.history.proofs.Claims.{every-history-is-the-ledgers}
 use Rattle.grid.specs.Reports.{reportOf}
-use Rattle.capi.specs.Replies.{askOf, Replies, RepliesList}
+use Rattle.capi.specs.Replies.{Replies, RepliesList}
+use Rattle.ledger.specs.Calls.{askOf}
 use Rattle.capi.specs.Hosts.{HostCall, clock, add, report, drop, ask, callOf, listOf, fed, Seen, idsIn, seenOf, Changes, Asks, Made, AllMade, none, one, HostsSeeTheLedger}
 use Rattle.capi.specs.declared.Reply.{Reply}
 

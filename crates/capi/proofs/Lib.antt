@@ -1,2 +1,2 @@
-pub mod ReplyLaws
+pub mod RepliesLaws
 pub mod Hosts

@@ -16,7 +16,8 @@ use Rattle.ledger.specs.declared.Call.the-variants as Call
 use Rattle.ledger.specs.declared.Change.the-variants as Change
 use Rattle.grid.specs.Reports.{reportOf}
 use Rattle.engine.specs.Index.{openOut, clockOut, changeOut, askOut}
-use Rattle.capi.specs.Replies.{replyOf, askOf, Replies, RepliesList}
+use Rattle.capi.specs.Replies.{replyOf, Replies, RepliesList}
+use Rattle.ledger.specs.Calls.{askOf}
 use Rattle.capi.specs.declared.Reply.{Reply}
 
 -- an exported call with its numbers, in the order of its parameters; an ask with the list that it is lent

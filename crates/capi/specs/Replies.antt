@@ -3,12 +3,9 @@
 use mathlib.Core.Path.{_≡_}
 use mathlib.Core.List.{List}
 use Prim.Native.Nat.{ℕ}
-use lib.IntN.{ℤ}
-use Rattle.grid.specs.Reports.{rectOf}
 use Rattle.records.specs.Words.{Words}
 use Rattle.ledger.specs.Answers.{numberOf, valueOf, countsOf}
 use Rattle.ledger.specs.declared.Answer.{Answer}
-use Rattle.ledger.specs.declared.Ask.{Ask}
 use Rattle.asking.specs.Asking.{AskOutcome}
 use Rattle.engine.specs.Index.{Outcome}
 use Rattle.capi.specs.declared.Reply.{Reply}
@@ -28,11 +25,6 @@ replyOf answer =
 -- those of an answer that is no accepted ask's
 abbrev pub plain : ℕ → ℕ → Reply
 plain number value = record { number = number; value = value; cells = 0; useful = 0; rounds = 0 }
-
--- an ask: the method, the asked time, the rectangle
-abbrev pub askOf : ℤ → ℤ → ℤ → ℤ → ℤ → ℤ → Ask
-askOf method asked lowX lowY highX highY =
-    record { method = method; query = record { rect = rectOf lowX lowY highX highY; time = asked } }
 
 -- a call's reply and words at exit are those of its definition
 pub record Replies (o : Outcome) (r : Reply) (w : Words) : Type 0 where

@@ -5,9 +5,8 @@ ghost use Rattle.records.specs.Words.{words, areSound};
 ghost use Rattle.ledger.specs.declared.Change.the-variants as Change;
 ghost use Rattle.engine.specs.Index.{openOut, clockOut, changeOut, askOut};
 ghost use Rattle.grid.specs.Reports.{reportOf};
-ghost use Rattle.capi.specs.Replies.{replyOf, plain, askOf, Replies, RepliesList};
-use grid::Query;
-use grid::Rect;
+ghost use Rattle.capi.specs.Replies.{replyOf, plain, Replies, RepliesList};
+ghost use Rattle.ledger.specs.Calls.{askOf};
 use grid::Report;
 use ledger::Answer;
 use ledger::Ask;
@@ -61,18 +60,6 @@ fn report_of(id: i32, t: i32, x: i32, y: i32, vx: i32, vy: i32) -> Report
         y: y,
         vx: vx,
         vy: vy,
-    }
-}
-
-fn ask_of(method: i32, asked: i32, low_x: i32, low_y: i32, high_x: i32, high_y: i32) -> Ask
-    ensures { λ r. ⌜ r ≡ askOf method asked «low_x» «low_y» «high_x» «high_y» ⌝ }
-{
-    Ask {
-        method: method,
-        query: Query {
-            rect: Rect::of(low_x, low_y, high_x, high_y),
-            time: asked,
-        },
     }
 }
 
@@ -153,7 +140,7 @@ pub extern "C" fn float_index_ask(
         store,
         table,
         list,
-        ask_of(method, asked, low_x, low_y, high_x, high_y),
+        Ask::of(method, asked, low_x, low_y, high_x, high_y),
     ))
 }
 

@@ -24,7 +24,7 @@ use Rattle.methods.specs.Claims.{ValidRows}
 use Rattle.methods.specs.declared.Block.{Block}
 use Rattle.choosing.specs.Bounds.{IsSlot}
 use Rattle.methods.proofs.Blocks.{grid-has, within-grid-on}
-use Rattle.choosing.proofs.Passes.{rowFrom, row-before, rowsFrom, rows-before}
+use Rattle.choosing.proofs.ChoosingPassesLaws.{rowFrom, row-before, rowsFrom, rows-before}
 
 -- the bounds of one list of rows after another
 pub bounds-then : (xs ys : List Row) → joined (boundsOf xs) (boundsOf ys) ≡ boundsOf (xs ++ ys)

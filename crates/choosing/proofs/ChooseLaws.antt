@@ -84,11 +84,11 @@ module _ (rows : Rows) (aim : Aim) (naive : Block) where
 -- ---- bounds and blocks
 
 -- bounds that a call gave back are valid
-pub call-valid : {t : List ℤ} {slot : ℕ} → IsSlot t slot → (w : Row) (b : Block) → w ≡ boundsIn (rowsOfSlot t slot) b → BlockOnGrid b → validRow w ≡ true
+pub call-valid : {table : List ℤ} {slot : ℕ} → IsSlot table slot → (w : Row) (b : Block) → w ≡ boundsIn (rowsOfSlot table slot) b → BlockOnGrid b → validRow w ≡ true
 unfolding boundsIn
-call-valid {t} {slot} s w b e on =
+call-valid {table} {slot} s w b e on =
     ap validRow e
-    ∙ bounds-valid (map (rowsOfSlot t slot) (cellsOf b)) (all-valid (rowsOfSlot t slot) (slot-valid s) {b = b} (omega arith))
+    ∙ bounds-valid (map (rowsOfSlot table slot) (cellsOf b)) (all-valid (rowsOfSlot table slot) (slot-valid s) {b = b} (omega arith))
 
 pub expanded-found : (w : Row) (aim : Aim) {m : Bool} {b : Block} → m ≡ isEmpty w → b ≡ blockOf (aim .expanded w) → FoundIs (record { missing = m; block = b }) (expandedBlock w aim)
 unfolding expandedBlock
@@ -119,13 +119,14 @@ found-by {r} aim e p = subst (λ (x : Row). FoundIs r (expandedBlock x aim)) e p
 
 -- ---- what each method chooses, where the naive block is b and no mark is set before
 
-module _ (t : List ℤ) (slot : ℕ) (aim : Aim) (b : Block) (naive : naiveBlock (rowsOfSlot t slot) aim ≡ found b) {before : List ℕ} (clear : before ≡ noMarks) where
-  pub naive-chosen : {method : ℕ} {marks : List ℕ} → method ≡ 0 → Marked before (cellsOf b) marks → ChosenBy method t slot aim marks 0
+module _ (table : List ℤ) (slot : ℕ) (aim : Aim) (b : Block) (naive : naiveBlock (rowsOfSlot table slot) aim ≡ found b) {before : List ℕ} (clear : before ≡ noMarks) where
+  pub naive-chosen : {method : ℕ} {marks : List ℕ} → method ≡ 0 → Marked before (cellsOf b) marks → ChosenBy method table slot aim marks 0
   unfolding choice noMarks
   naive-chosen e m =
       rw e (record { marks-are = rw naive (rw clear at (m .marks-are)); rounds-are = refl })
 
-  pub semi-naive-chosen : {method : ℕ} {marks : List ℕ} → method ≡ 1 → Marked before (cellsFound (expandedBlock (boundsIn (rowsOfSlot t slot) b) aim)) marks → ChosenBy method t slot aim marks 0
+  pub semi-naive-chosen : {method : ℕ} {marks : List ℕ}
+      → method ≡ 1 → Marked before (cellsFound (expandedBlock (boundsIn (rowsOfSlot table slot) b) aim)) marks → ChosenBy method table slot aim marks 0
   unfolding choice noMarks
   semi-naive-chosen e m =
       rw e (record { marks-are = rw naive (rw clear at (m .marks-are)); rounds-are = refl })
@@ -133,23 +134,24 @@ module _ (t : List ℤ) (slot : ℕ) (aim : Aim) (b : Block) (naive : naiveBlock
   pub iterative-chosen :
       {method : ℕ} {marks : List ℕ} {rounds : ℕ}
       → method ≡ 2
-      → Marked before (cellsFound (iterated mostRounds (rowsOfSlot t slot) aim emptyRow b 0 .block)) marks
-      → rounds ≡ iterated mostRounds (rowsOfSlot t slot) aim emptyRow b 0 .rounds
-      → ChosenBy method t slot aim marks rounds
+      → Marked before (cellsFound (iterated mostRounds (rowsOfSlot table slot) aim emptyRow b 0 .block)) marks
+      → rounds ≡ iterated mostRounds (rowsOfSlot table slot) aim emptyRow b 0 .rounds
+      → ChosenBy method table slot aim marks rounds
   unfolding choice noMarks
   iterative-chosen e m r =
       rw e (record { marks-are = rw naive (rw clear at (m .marks-are)); rounds-are = rw naive r })
 
-  pub optimal-chosen : {method : ℕ} {marks : List ℕ} → method ≢ 0 → method ≢ 1 → method ≢ 2 → Marked before (reached (rowsOfSlot t slot) aim (cellsOf b)) marks → ChosenBy method t slot aim marks 0
+  pub optimal-chosen : {method : ℕ} {marks : List ℕ}
+      → method ≢ 0 → method ≢ 1 → method ≢ 2 → Marked before (reached (rowsOfSlot table slot) aim (cellsOf b)) marks → ChosenBy method table slot aim marks 0
   unfolding choice noMarks
   optimal-chosen {method} x y z m =
       let n : method ≡ suc (suc (suc (method - 3))) = omega arith in
       rw n (record { marks-are = rw naive (rw clear at (m .marks-are)); rounds-are = refl })
 
 -- where bounds are missing, no method chooses a cell
-pub none-chosen : (method : ℕ) (t : List ℤ) (slot : ℕ) (aim : Aim) {marks : List ℕ} → naiveBlock (rowsOfSlot t slot) aim ≡ missing → marks ≡ noMarks → ChosenBy method t slot aim marks 0
+pub none-chosen : (method : ℕ) (table : List ℤ) (slot : ℕ) (aim : Aim) {marks : List ℕ} → naiveBlock (rowsOfSlot table slot) aim ≡ missing → marks ≡ noMarks → ChosenBy method table slot aim marks 0
 unfolding choice withCells passing noMarks
-none-chosen zero t slot aim naive e = record { marks-are = rw naive e; rounds-are = refl }
-none-chosen (suc zero) t slot aim naive e = record { marks-are = rw naive e; rounds-are = refl }
-none-chosen (suc (suc zero)) t slot aim naive e = record { marks-are = rw naive e; rounds-are = rw naive }
-none-chosen (suc (suc (suc n))) t slot aim naive e = record { marks-are = rw naive e; rounds-are = refl }
+none-chosen zero table slot aim naive e = record { marks-are = rw naive e; rounds-are = refl }
+none-chosen (suc zero) table slot aim naive e = record { marks-are = rw naive e; rounds-are = refl }
+none-chosen (suc (suc zero)) table slot aim naive e = record { marks-are = rw naive e; rounds-are = rw naive }
+none-chosen (suc (suc (suc n))) table slot aim naive e = record { marks-are = rw naive e; rounds-are = refl }

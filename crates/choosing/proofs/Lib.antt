@@ -1,4 +1,4 @@
-pub mod Passes
+pub mod ChoosingPassesLaws
 pub mod BoundsLaws
 pub mod MarkLaws
 pub mod ChooseLaws

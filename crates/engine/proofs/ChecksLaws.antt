@@ -26,7 +26,7 @@ use Rattle.store.specs.Changes.{steppedRecords}
 use Rattle.store.proofs.SteppedLaws.{has-stepped, stepped-length}
 use Rattle.words.specs.Words.{stepped}
 use Rattle.words.specs.Needs.{RightLengths, CanStep, CanPlace, CanReplace}
-use Rattle.words.proofs.SteppedLaws.{stepped-records, stepped-can-change}
+use Rattle.words.proofs.WordsSteppedLaws.{stepped-records, stepped-can-change}
 use Rattle.ledger.specs.Refusals.{Check, check, unless, firstToFail, badTime, badStepTime, badAskTime, badAsk, timeOf, idOf, badNumbers, heldChecks, changeChecks, askChecks}
 use Rattle.ledger.specs.declared.Ask.{Ask}
 use Rattle.ledger.specs.declared.Change.{Change}
@@ -37,8 +37,8 @@ use Rattle.ledger.specs.declared.Verdict.{Verdict}
 use Rattle.ledger.specs.declared.Verdict.the-variants.{Passed, Failed}
 use Rattle.ledger.proofs.RefusalsLaws.{passes, not-both, first-passed, others-passed}
 use Rattle.asking.specs.Counted.{CanAsk, roomChecks}
-use Rattle.engine.specs.Index.{wrongLength, unsound, lentChecks, openChecks, checksOfChange}
-use Rattle.engine.specs.Needs.{CanMake, CanApply}
+use Rattle.engine.specs.Checks.{wrongLength, unsound, lentChecks, openChecks, checksOfChange}
+use Rattle.engine.specs.Sound.{CanMake, CanApply}
 
 -- ---- the lent words
 

@@ -21,7 +21,7 @@ use Rattle.asking.specs.Asking.{askSettled, GivesList}
 use Rattle.asking.proofs.AskingLaws.{gives-list}
 use Rattle.engine.specs.Index.{Outcome, settled, clockOut, changeOut, askOut, callOut}
 use Rattle.engine.specs.Gives.{Gives, GivesCall}
-use Rattle.engine.specs.Needs.{Done}
+use Rattle.engine.specs.Sound.{Done}
 
 pub gives : (o : Outcome) (a : Answer) (w : Words) → a ≡ o .answer → w ≡ o .words → Gives o a w
 gives o a w e x = record {
@@ -39,8 +39,8 @@ pub done : (v : Verdict) (w w′ : Words) (a : Answer) (w″ : Words) → v ≡ 
 done v w w′ a w″ e d = rw e (gives (settled Passed w w′) a w″ (d .answer-is) (d .words-are))
 
 -- the words at exit and the floats held in them
-pub done-of : (s t : List ℤ) (w : Words) (a : Answer) → words s t ≡ w → a ≡ Accepted (length (recordsOf s)) → Done w a (words s t)
-done-of s t w a e x = record { answer-is = x ∙ ap (λ (v : Words). Accepted (length (recordsIn v))) e; words-are = e }
+pub done-of : (s table : List ℤ) (w : Words) (a : Answer) → words s table ≡ w → a ≡ Accepted (length (recordsOf s)) → Done w a (words s table)
+done-of s table w a e x = record { answer-is = x ∙ ap (λ (v : Words). Accepted (length (recordsIn v))) e; words-are = e }
 
 pub list-refused : (v : Verdict) (r : Refusal) (w : Words) (ask : Ask) (list : List ℕ) → v ≡ Failed r → GivesList (askSettled v w ask list) (Refused r) list
 list-refused v r w ask list e = rw e (gives-list (askSettled (Failed r) w ask list) (Refused r) list refl refl)

@@ -1,3 +1,3 @@
 pub mod ChecksLaws
 pub mod GivesLaws
-pub mod SmallAnswers
+pub mod IndexSmallLaws

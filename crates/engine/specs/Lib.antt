@@ -1,3 +1,4 @@
+pub mod Checks
 pub mod Index
 pub mod Gives
-pub mod Needs
+pub mod Sound

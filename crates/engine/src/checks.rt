@@ -16,7 +16,7 @@ ghost use Rattle.records.specs.Soundness.{IsStore};
 ghost use Rattle.records.specs.Words.{words};
 ghost use Rattle.ledger.specs.Refusals.{check, firstToFail, badStepTime, badAskTime, badAsk, isRectangle, clockChecks, badNumbers, heldChecks};
 ghost use Rattle.ledger.specs.declared.Refusal.the-variants.{BadTime, BadNumber, AlreadyHeld, NotHeld, Full};
-ghost use Rattle.engine.specs.Index.{wrongLength, openChecks, lentChecks, checksOfChange};
+ghost use Rattle.engine.specs.Checks.{wrongLength, openChecks, lentChecks, checksOfChange};
 use grid::LAST_ID;
 use grid::LAST_POSITION;
 use grid::LAST_TIME;

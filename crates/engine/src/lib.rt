@@ -7,7 +7,7 @@ ghost use Rattle.ledger.specs.declared.Change.the-variants as Change;
 ghost use Rattle.asking.specs.Asking.{GivesList};
 ghost use Rattle.engine.specs.Index.{openOut, clockOut, changeOut, askOut};
 ghost use Rattle.engine.specs.Gives.{Gives};
-ghost use Rattle.engine.specs.Needs.{Done};
+ghost use Rattle.engine.specs.Sound.{Done};
 
 mod checks;
 pub mod sound;

@@ -13,7 +13,7 @@ ghost use Rattle.ledger.specs.declared.Answer.the-variants.{Accepted};
 ghost use Rattle.asking.specs.Asking.{GivesList};
 ghost use Rattle.engine.specs.Index.{clockOut, changed, changeOut, askOut, callOut};
 ghost use Rattle.engine.specs.Gives.{Gives, GivesCall};
-ghost use Rattle.engine.specs.Needs.{CanMake, CanApply, Done};
+ghost use Rattle.engine.specs.Sound.{CanMake, CanApply, Done};
 use crate::checks::ask_verdict;
 use crate::checks::change_verdict;
 use crate::checks::clock_verdict;

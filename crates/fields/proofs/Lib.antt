@@ -1,5 +1,5 @@
-pub mod FieldLaws
-pub mod NumberLaws
+pub mod FieldsLaws
+pub mod NumbersLaws
 pub mod PutLaws
 pub mod ReadingLaws
 pub mod WritingLaws

@@ -15,8 +15,8 @@ use Rattle.grid.specs.Places.{sameCell, OnGrid}
 use Rattle.grid.specs.Curve.{cell, numberAt, cellAt, curveNumber, cellOfNumber, apart}
 use Rattle.grid.specs.declared.Cell.{Cell}
 use Rattle.grid.proofs.PlacesLaws.{one-cell}
-use Rattle.grid.proofs.Every.{left, right, at-place}
-use Rattle.grid.proofs.Tables as Tables
+use Rattle.grid.proofs.CurveEveryLaws.{left, right, at-place}
+use Rattle.grid.proofs.CurveTables as Tables
 
 -- the tables' place of a cell, and the cell of a place
 abbrev pub placeOf : Cell → ℕ

@@ -30,7 +30,7 @@ use Rattle.records.specs.Words.{Words, timeIn}
 use Rattle.records.specs.Order.{precedes}
 use Rattle.store.specs.Changes.{inserted}
 use Rattle.records.specs.declared.Record.{Record}
-use Rattle.records.proofs.KeyLaws.{live-phase-of-key}
+use Rattle.records.proofs.OrderKeysLaws.{live-phase-of-key}
 use Rattle.records.proofs.SoundnessLaws.{Sound, sound-parts}
 use Rattle.reading.proofs.ListedLaws.{idOf}
 use Rattle.ledger.specs.Answers.{isAccepted}
@@ -45,15 +45,16 @@ use Rattle.ledger.specs.declared.Ask.{Ask}
 use Rattle.ledger.specs.declared.Call.the-variants as Call
 use Rattle.ledger.specs.declared.Verdict.{Verdict}
 use Rattle.ledger.specs.declared.Verdict.the-variants.{Passed, Failed}
-use Rattle.ledger.proofs.IdsInOrderLaws.{put-comm}
-use Rattle.ledger.proofs.SummedLaws.{summed-same}
+use Rattle.ledger.proofs.MachineIdsLaws.{put-comm}
+use Rattle.ledger.proofs.MachineSummedLaws.{summed-same}
 use Rattle.ledger.proofs.RefusalsLaws.{first-passed, others-passed}
 use Rattle.asking.specs.Asking.{choiceOf, idsNeeded, idsFound, cellsCounted, usefulCounted, roundsCounted, askSettled}
 use Rattle.asking.specs.Claims.{idsInside}
-use Rattle.asking.proofs.PhaseReadingLaws.{FitAsk, fit-ask, isInside}
+use Rattle.asking.proofs.AskingPhasesLaws.{FitAsk, fit-ask, isInside}
 use Rattle.asking.proofs.CountedLaws.{cells-counted-are}
-use Rattle.asking.proofs.ListIsExact.{found-is-inside, needed-is-inside}
-use Rattle.engine.specs.Index.{checksOf, askOut, leavingWords, callOut}
+use Rattle.asking.proofs.Claims.{found-is-inside, needed-is-inside}
+use Rattle.engine.specs.Index.{askOut, leavingWords, callOut}
+use Rattle.engine.specs.Checks.{checksOf}
 use Rattle.engine.proofs.ChecksLaws.{sound-lent}
 use Rattle.history.specs.Index.{fed, replyOf, replyTo}
 use Rattle.history.specs.Claims.{asking}

@@ -23,9 +23,9 @@ use Rattle.ledger.specs.declared.Answer.{Answer}
 use Rattle.ledger.specs.declared.Answer.the-variants.{Listed}
 use Rattle.ledger.specs.declared.Ask.{Ask}
 use Rattle.ledger.specs.declared.Verdict.the-variants.{Passed}
-use Rattle.ledger.proofs.SummedLaws.{summed-same}
+use Rattle.ledger.proofs.MachineSummedLaws.{summed-same}
 use Rattle.ledger.proofs.RefusalsLaws.{passed-of}
-use Rattle.asking.proofs.PhaseReadingLaws.{FitAsk}
+use Rattle.asking.proofs.AskingPhasesLaws.{FitAsk}
 use Rattle.history.specs.Index.{replyTo}
 use Rattle.history.specs.Claims.{asking, askBy, EveryHistoryIsTheLedgers, Accepts, PointAgrees, EveryPointAgrees}
 use Rattle.history.proofs.Relation.{Left}

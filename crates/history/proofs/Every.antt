@@ -18,7 +18,7 @@ use Rattle.rows.proofs.PhasesLaws.{slot-on}
 use Rattle.rows.proofs.TableLaws.{length-slot-empty, row-emptied, row-kept}
 use Rattle.records.specs.Words.{Words, timeIn, recordsIn}
 use Rattle.words.specs.Words as Index
-use Rattle.words.proofs.PlacedLaws.{opened-time, opened-records, opened-can-change}
+use Rattle.words.proofs.WordsPlacedLaws.{opened-time, opened-records, opened-can-change}
 use Rattle.ledger.specs.Answers.{isAccepted}
 use Rattle.ints.specs.Lists.{passing}
 use Rattle.ints.proofs.Parts.{true-false}
@@ -35,8 +35,10 @@ use Rattle.ledger.specs.declared.Refusal.the-variants.{WrongLength, BadTime}
 use Rattle.ledger.specs.declared.Verdict.{Verdict}
 use Rattle.ledger.specs.declared.Verdict.the-variants.{Passed, Failed}
 use Rattle.ledger.proofs.RefusalsLaws.{first-passed, others-passed}
-use Rattle.engine.specs.Index.{wrongLength, lentChecks, openChecks, checksOfChange, settled, openOut, clockOut, changeOut, leavingList, callOut}
+use Rattle.engine.specs.Index.{settled, openOut, clockOut, changeOut, leavingList, callOut}
+use Rattle.engine.specs.Checks.{wrongLength, lentChecks, openChecks, checksOfChange}
 use Rattle.engine.specs.Index as Engine
+use Rattle.engine.specs.Checks as Checks
 use Rattle.engine.proofs.ChecksLaws.{right-lengths, sound-lent}
 use Rattle.history.specs.Index.{LentCall, fed, fedAll, replyOf, replyTo, next, replies, after, openedWords}
 use Rattle.history.specs.Claims.{EveryHistoryIsTheLedgers, asking}
@@ -138,7 +140,7 @@ module _ (l : Ledger) (w : Words) (left : Left l w) (list : List ℕ) where
     abbrev clocking : LentCall
     clocking = record { call = Call.Clock t; list = list }
 
-    clock-verdict : firstToFail (Engine.checksOf w (Call.Clock t) 0) ≡ firstToFail (clockChecks (l .now) t)
+    clock-verdict : firstToFail (Checks.checksOf w (Call.Clock t) 0) ≡ firstToFail (clockChecks (l .now) t)
     clock-verdict = sound-here (clockChecks (timeIn w) t) ∙ ap firstToFail (clock-same l w left t)
 
     clock-leaves : Left (L.next l (fed clocking)) (next w clocking)
@@ -153,7 +155,7 @@ module _ (l : Ledger) (w : Words) (left : Left l w) (list : List ℕ) where
     abbrev changing : LentCall
     changing = record { call = Call.Change c; list = list }
 
-    change-verdict : firstToFail (Engine.checksOf w (Call.Change c) 0) ≡ firstToFail (checks l w left c)
+    change-verdict : firstToFail (Checks.checksOf w (Call.Change c) 0) ≡ firstToFail (checks l w left c)
     change-verdict = sound-here (checksOfChange (timeIn w) (recordsIn w) c) ∙ ap firstToFail (change-same l w left c)
 
     abbrev ledgerThen : Ledger

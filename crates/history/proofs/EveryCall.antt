@@ -29,16 +29,17 @@ use Rattle.ledger.specs.declared.Change.the-variants as Change
 use Rattle.ledger.specs.declared.Refusal.the-variants.{Unsound, WrongLength, BadTime, BadNumber, ListTooShort}
 use Rattle.ledger.specs.declared.Verdict.{Verdict}
 use Rattle.ledger.specs.declared.Verdict.the-variants.{Passed, Failed}
-use Rattle.ledger.proofs.SummedLaws.{summed-same, summed-none}
+use Rattle.ledger.proofs.MachineSummedLaws.{summed-same, summed-none}
 use Rattle.ledger.proofs.Claims.{refusals-are-plain}
 use Rattle.ledger.proofs.RefusalsLaws.{first-passed, others-passed}
 use Rattle.asking.specs.Asking.{choiceOf, idsNeeded, idsFound, roundsCounted, AskOutcome, askSettled}
 use Rattle.asking.specs.Counted.{roomChecks}
 use Rattle.asking.specs.Claims.{idsInside}
-use Rattle.asking.proofs.PhaseReadingLaws.{fit-ask}
+use Rattle.asking.proofs.AskingPhasesLaws.{fit-ask}
 use Rattle.asking.proofs.CountedLaws.{cells-counted-are}
-use Rattle.asking.proofs.ListIsExact.{list-is-exact}
-use Rattle.engine.specs.Index.{wrongLength, unsound, lentChecks, checksOf, askOut, callOut}
+use Rattle.asking.proofs.Claims.{list-is-exact}
+use Rattle.engine.specs.Index.{askOut, callOut}
+use Rattle.engine.specs.Checks.{wrongLength, unsound, lentChecks, checksOf}
 use Rattle.engine.proofs.ChecksLaws.{sound-lent, room-left}
 use Rattle.history.specs.Index.{idsWritten}
 use Rattle.history.specs.EveryCall.{EveryCallChecksInOrder, CountsOfAsk, ListIsWritten, heldIn, CountsAreExact, ChoiceRoundsAreMethodTwos, RoundsAreMethodTwos, RefusedAskIsEmpty}

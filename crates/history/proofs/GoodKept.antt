@@ -22,7 +22,7 @@ use Rattle.grid.specs.declared.Report.{Report}
 use Rattle.grid.proofs.PlacesLaws.{cell-on}
 use Rattle.rows.specs.Phases.{phaseOf, referenceTime, isLive}
 use Rattle.rows.proofs.PhasesLaws.{range-live, phases-grow}
-use Rattle.records.proofs.RangeLaws.{drift-in-range}
+use Rattle.records.proofs.SoundnessRangeLaws.{drift-in-range}
 use Rattle.ledger.specs.Machine.{Ledger, Held, Placement, placement, opened, isHeld, without, steppedOne, steppedHeld, newPlacements, livePlacements, stepped, withReport, withoutId}
 use Rattle.ledger.proofs.MachineLaws.{same-report, stepped-length, stepped-held, stepped-from, without-member, without-few, without-held, live-from, live-stays, new-from, new-placed}
 use Rattle.history.proofs.Relation.{heldOnce, GoodHeld, GoodPlacement, Good}

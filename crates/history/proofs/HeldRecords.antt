@@ -18,7 +18,7 @@ use Rattle.records.specs.Order.{isSorted, hasId}
 use Rattle.records.specs.Soundness.{isSoundRecord, allSound, idsDistinct}
 use Rattle.store.specs.Changes.{inserted, insertedAll, removed, placedIn, stays, moves, steppedRecords}
 use Rattle.records.specs.declared.Record.{Record}
-use Rattle.records.proofs.KeyLaws.{live-phase-of-key, placed-right}
+use Rattle.records.proofs.OrderKeysLaws.{live-phase-of-key, placed-right}
 use Rattle.records.proofs.SoundnessLaws.{record-sound}
 use Rattle.store.proofs.InsertedLaws.{inserted-from, inserted-length, has-inserted, inserted-sorted, inserted-every, inserted-distinct}
 use Rattle.store.proofs.RemovedLaws.{removed-same, removed-other}

@@ -29,7 +29,7 @@ use Rattle.store.proofs.WidenedLaws.{ownRow}
 use Rattle.words.specs.Words as Index
 use Rattle.records.specs.declared.Record.{Record}
 use Rattle.records.proofs.RecordsLaws.{now-of-store}
-use Rattle.records.proofs.RangeLaws.{number-of-key-below}
+use Rattle.records.proofs.SoundnessRangeLaws.{number-of-key-below}
 use Rattle.store.proofs.WidenedLaws.{with-speeds-length}
 use Rattle.ledger.specs.Answers.{isAccepted}
 use Rattle.ledger.specs.Refusals.{Check, check, firstToFail, badStepTime, timeOf}
@@ -45,7 +45,8 @@ use Rattle.ledger.specs.declared.Verdict.the-variants.{Passed, Failed}
 use Rattle.ledger.specs.declared.Refusal.the-variants.{WrongLength, Unsound, BadTime}
 use Rattle.ledger.proofs.MachineLaws.{speeds-append, speeds-live}
 use Rattle.ledger.proofs.RefusalsLaws.{first-passed, others-passed, passed-of}
-use Rattle.engine.specs.Index.{wrongLength, unsound, lentChecks, settled, clockOut, changeOut, callOut}
+use Rattle.engine.specs.Index.{settled, clockOut, changeOut, callOut}
+use Rattle.engine.specs.Checks.{wrongLength, unsound, lentChecks}
 use Rattle.engine.specs.Index as Engine
 use Rattle.engine.proofs.ChecksLaws.{right-lengths}
 use Rattle.history.specs.Index.{LentCall, next, after}

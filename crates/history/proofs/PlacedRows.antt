@@ -30,12 +30,12 @@ use Rattle.rows.specs.declared.Row.{Row}
 use Rattle.rows.proofs.RowLaws.{AllValid, joined-same, drift-ranged, ranged-valid, empty-valid, bounds-valid, bounds-append}
 use Rattle.rows.proofs.PhasesLaws.{live-range, range-live, same-slot, slot-on, phases-grow}
 use Rattle.rows.proofs.TableLaws.{length-newly-live-empty, newly-live-emptied, earlier-live-kept}
-use Rattle.rows.proofs.SlotLaws.{phase-in-slot, slot-cases, other-slot-kept}
+use Rattle.rows.proofs.TableSlotLaws.{phase-in-slot, slot-cases, other-slot-kept}
 use Rattle.records.specs.Order.{keyIn, slotOfKey, numberOfKey}
 use Rattle.store.specs.Changes.{placedIn, stays, moves, replaced, widenedByAll}
 use Rattle.records.specs.declared.Record.{Record}
-use Rattle.records.proofs.KeyLaws.{slot-of-key-in, number-of-key-in}
-use Rattle.records.proofs.RangeLaws.{drift-in-range}
+use Rattle.records.proofs.OrderKeysLaws.{slot-of-key-in, number-of-key-in}
+use Rattle.records.proofs.SoundnessRangeLaws.{drift-in-range}
 use Rattle.store.proofs.SteppedLaws.{replaced-from}
 use Rattle.store.proofs.WidenedLaws.{liesAt, speedsAt, Placeable, newBounds, withOne, bounds-inserted, with-speeds-length, row-with-speeds, none-elsewhere}
 use Rattle.store.proofs.WidenedLaws as Records

@@ -32,13 +32,13 @@ use Rattle.records.specs.Words.{Words, timeIn, recordsIn}
 use Rattle.records.specs.Order.{keyIn, slotOfKey, numberOfKey, keyAt}
 use Rattle.reading.specs.Reading.{inSet, isRead, hasKey}
 use Rattle.records.specs.declared.Record.{Record}
-use Rattle.records.proofs.KeyLaws.{number-of-key-in}
+use Rattle.records.proofs.OrderKeysLaws.{number-of-key-in}
 use Rattle.records.proofs.SoundnessLaws.{Sound}
 use Rattle.ledger.specs.Machine.{Held, placeIn, listedHeld, isUseful, usefulCells, summed}
-use Rattle.ledger.proofs.SummedLaws.{summed-same}
+use Rattle.ledger.proofs.MachineSummedLaws.{summed-same}
 use Rattle.ledger.specs.declared.Ask.{Ask}
 use Rattle.asking.specs.Asking.{choiceOf, marksIn, listedOf, usefulCounted}
-use Rattle.asking.proofs.PhaseReadingLaws.{FitAsk, phaseOfRecord, isInside, isInsideIn, float-at, listed-of-phase}
+use Rattle.asking.proofs.AskingPhasesLaws.{FitAsk, phaseOfRecord, isInside, isInsideIn, float-at, listed-of-phase}
 use Rattle.asking.proofs.CountedLaws.{useful-counted-are}
 use Rattle.history.specs.EveryCall.{heldRecord, heldIn}
 use Rattle.history.proofs.UsefulCells.{useful-cells-are, useful-from, from-useful}

@@ -24,8 +24,8 @@ use Rattle.records.specs.declared.Record.{Record}
 use Rattle.store.specs.Changes.{inserted, removed, placedIn, steppedRecords, widenedByAll}
 use Rattle.words.specs.Words as Index
 use Rattle.words.specs.Needs.{CanPlace}
-use Rattle.words.proofs.SteppedLaws.{stepped-time, stepped-records, stepped-can-change}
-use Rattle.words.proofs.PlacedLaws.{placed-time, placed-records, placed-can-change, taken-time, taken-records, taken-can-change}
+use Rattle.words.proofs.WordsSteppedLaws.{stepped-time, stepped-records, stepped-can-change}
+use Rattle.words.proofs.WordsPlacedLaws.{placed-time, placed-records, placed-can-change, taken-time, taken-records, taken-can-change}
 use Rattle.ledger.specs.Refusals.{Check, check, firstToFail, badStepTime, clockChecks, timeOf, idOf, badNumbers, heldChecks, changeChecks}
 use Rattle.ledger.specs.Machine.{Ledger, Held, isHeld, steppedHeld, stepped, withReport, withoutId, changed, rowsIn}
 use Rattle.ledger.specs.Calls as L
@@ -36,7 +36,7 @@ use Rattle.ledger.specs.declared.Refusal.the-variants.{BadTime, BadNumber, Alre
 use Rattle.ledger.specs.declared.Verdict.the-variants.{Passed}
 use Rattle.ledger.proofs.MachineLaws.{without-length}
 use Rattle.ledger.proofs.RefusalsLaws.{first-passed, others-passed}
-use Rattle.engine.specs.Index.{checksOfChange}
+use Rattle.engine.specs.Checks.{checksOfChange}
 use Rattle.engine.specs.Index as Engine
 use Rattle.engine.proofs.ChecksLaws.{can-step}
 use Rattle.history.proofs.Relation.{recordsOfHeld, TableMatches, Left}

@@ -30,7 +30,7 @@ use Rattle.methods.proofs.Methods.{choice-on, choice-once}
 use Rattle.methods.proofs.Marks.{one-more, cells-counted}
 use Rattle.ledger.specs.Machine.{Ledger, Held, placeIn, speedsPlaced, rowsIn, choiceIn, listedHeld, isUseful, usefulCells}
 use Rattle.ledger.proofs.MachineLaws.{speed-placed}
-use Rattle.asking.proofs.PhaseReadingLaws.{FitAsk, fit-in-order}
+use Rattle.asking.proofs.AskingPhasesLaws.{FitAsk, fit-in-order}
 use Rattle.history.proofs.Relation.{Good}
 use Rattle.history.proofs.PlacedRows.{speeds-valid}
 

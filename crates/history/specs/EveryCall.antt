@@ -23,7 +23,8 @@ use Rattle.ledger.specs.declared.Ask.{Ask}
 use Rattle.ledger.specs.declared.Call.{Call}
 use Rattle.asking.specs.Asking.{choiceOf}
 use Rattle.asking.specs.Claims.{idsInside}
-use Rattle.engine.specs.Index.{openChecks, checksOf, askOut, callOut}
+use Rattle.engine.specs.Index.{askOut, callOut}
+use Rattle.engine.specs.Checks.{openChecks, checksOf}
 use Rattle.history.specs.Index.{LentCall, replyTo}
 
 -- ---- S15: the checks of each of the calls stand in number order

@@ -1,6 +1,6 @@
 pub mod Examples
 pub mod MachineLaws
-pub mod IdsInOrderLaws
-pub mod SummedLaws
+pub mod MachineIdsLaws
+pub mod MachineSummedLaws
 pub mod RefusalsLaws
 pub mod Claims

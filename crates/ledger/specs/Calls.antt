@@ -6,16 +6,23 @@ use mathlib.Core.List.{List, [], _∷_}
 use Prim.Native.Nat.{ℕ}
 use lib.IntN.{ℤ}
 use lib.ListN.{length}
+use Rattle.grid.specs.Reports.{rectOf}
 use Rattle.ledger.specs.Answers.{isAccepted}
 use Rattle.ledger.specs.Refusals.{Check, check, firstToFail, badTime, clockChecks, timeOf, idOf, changeChecks, askChecks}
 use Rattle.ledger.specs.Machine.{Ledger, stepped, isHeld, changed, idsListed, cellsRead, usefulRead, roundsTaken}
 use Rattle.ledger.specs.declared.Answer.{Answer}
 use Rattle.ledger.specs.declared.Answer.the-variants.{Accepted, Listed, Refused}
+use Rattle.ledger.specs.declared.Ask.{Ask}
 use Rattle.ledger.specs.declared.Call.{Call}
 use Rattle.ledger.specs.declared.Call.the-variants as Call
 use Rattle.ledger.specs.declared.Refusal.the-variants.{BadTime}
 use Rattle.ledger.specs.declared.Verdict.{Verdict}
 use Rattle.ledger.specs.declared.Verdict.the-variants.{Passed, Failed}
+
+-- the ask of a call's six numbers: the method, the asked time, the low corner, the high one
+abbrev pub askOf : ℤ → ℤ → ℤ → ℤ → ℤ → ℤ → Ask
+askOf method time lowX lowY highX highY =
+    record { method = method; query = record { rect = rectOf lowX lowY highX highY; time = time } }
 
 -- what the ledger is fed: a call, and the length of the answer list that it is lent, which matters to an ask alone
 pub record Fed : Type 0 where

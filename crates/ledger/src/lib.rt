@@ -2,7 +2,9 @@
 ghost use mathlib.Core.Path.{_≡_};
 ghost use Rattle.ledger.specs.Answers.{refusalNumber, refusalValue};
 ghost use Rattle.ledger.specs.Refusals.{timeOf, idOf};
+ghost use Rattle.ledger.specs.Calls.{askOf};
 use grid::Query;
+use grid::Rect;
 use grid::Report;
 
 // A change of the floats held.
@@ -43,6 +45,21 @@ impl Change {
 pub struct Ask {
     pub method: i32,
     pub query: Query,
+}
+
+impl Ask {
+    // That of a call's six numbers.
+    pub fn of(method: i32, time: i32, low_x: i32, low_y: i32, high_x: i32, high_y: i32) -> Ask
+        ensures { λ r. ⌜ r ≡ askOf method time «low_x» «low_y» «high_x» «high_y» ⌝ }
+    {
+        Ask {
+            method: method,
+            query: Query {
+                rect: Rect::of(low_x, low_y, high_x, high_y),
+                time: time,
+            },
+        }
+    }
 }
 
 // A call after open, with its numbers.

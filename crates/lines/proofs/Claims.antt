@@ -22,8 +22,8 @@ use Rattle.fields.specs.Numbers.{areWritable}
 use Rattle.lines.specs.Lines.{lineOf, lineLength, letterOf, changeNumbers, numbersOf, callLine}
 use Rattle.lines.specs.Reading.{numbersIn, areNumbers, hasNumbers, callOf, countOf, readLine}
 use Rattle.lines.specs.Claims.{ReadWritten, WrittenRead}
-use Rattle.fields.proofs.NumberLaws.{length-fields}
-use Rattle.lines.proofs.LineLaws.{numbers-written, good-written, line-read}
+use Rattle.fields.proofs.NumbersLaws.{length-fields}
+use Rattle.lines.proofs.LinesLaws.{numbers-written, good-written, line-read}
 
 -- ---- a written line is read
 

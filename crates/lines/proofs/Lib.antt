@@ -1,4 +1,4 @@
 pub mod ReadingLaws
-pub mod LineLaws
+pub mod LinesLaws
 pub mod Claims
 pub mod Examples

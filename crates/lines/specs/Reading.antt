@@ -8,8 +8,9 @@ use Prim.Native.Char.{code}
 use lib.Dec.{eqb}
 use lib.IntN.{ℤ, pos}
 use lib.ListN.{length, getD, replicate}
-use Rattle.grid.specs.Reports.{reportOf, rectOf}
+use Rattle.grid.specs.Reports.{reportOf}
 use Rattle.grid.specs.declared.Report.{Report}
+use Rattle.ledger.specs.Calls.{askOf}
 use Rattle.ledger.specs.declared.Ask.{Ask}
 use Rattle.ledger.specs.declared.Change.the-variants as Change
 use Rattle.ledger.specs.declared.Call.the-variants as Call
@@ -43,8 +44,7 @@ abbrev pub reportIn : List ℤ → Report
 reportIn ns = reportOf (nth ns 0) (nth ns 1) (nth ns 2) (nth ns 3) (nth ns 4) (nth ns 5)
 
 abbrev pub askIn : List ℤ → Ask
-askIn ns =
-    record { method = nth ns 0; query = record { rect = rectOf (nth ns 2) (nth ns 3) (nth ns 4) (nth ns 5); time = nth ns 1 } }
+askIn ns = askOf (nth ns 0) (nth ns 1) (nth ns 2) (nth ns 3) (nth ns 4) (nth ns 5)
 
 -- the call of a letter, whose numbers are 0 where none are left
 unfoldable pub callOf : ℕ → List ℤ → Line

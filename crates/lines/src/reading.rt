@@ -8,8 +8,6 @@ use crate::Line;
 use crate::MOST_NUMBERS;
 use fields::WIDTH;
 use fields::reading::read_field;
-use grid::Query;
-use grid::Rect;
 use grid::Report;
 use ledger::Ask;
 use ledger::Call;
@@ -75,13 +73,7 @@ fn report_of(n: &[i32; MOST_NUMBERS]) -> Report
 fn ask_of(n: &[i32; MOST_NUMBERS]) -> Ask
     ensures { λ r. ⌜ r ≡ askIn (now (n .entry)) ⌝ }
 {
-    Ask {
-        method: n[0],
-        query: Query {
-            rect: Rect::of(n[2], n[3], n[4], n[5]),
-            time: n[1],
-        },
-    }
+    Ask::of(n[0], n[1], n[2], n[3], n[4], n[5])
 }
 
 fn call_of(letter: u8, n: &[i32; MOST_NUMBERS]) -> Line

@@ -1,8 +1,8 @@
 pub mod RecordsLaws
 pub mod PlacesLaws
-pub mod RangeLaws
-pub mod KeyLaws
-pub mod TurnLaws
-pub mod IdMarkLaws
+pub mod SoundnessRangeLaws
+pub mod OrderKeysLaws
+pub mod RecordsTurnLaws
+pub mod SoundnessIdsLaws
 pub mod SoundnessLaws
 pub mod OrderLaws

@@ -25,8 +25,8 @@ use Rattle.records.specs.Order.{isSorted}
 use Rattle.records.specs.Soundness.{allZero, keyIsRight, isSoundRecord, allSound, idsDistinct, isSoundHeader, isSoundStore, speedsInRows, isSound, isRanged, allRanged, IsStore}
 use Rattle.records.specs.declared.Record.{Record}
 use Rattle.records.proofs.RecordsLaws.{words-length, now-of-store, records-of-store, store-length, held-records, written-read}
-use Rattle.records.proofs.RangeLaws.{From, between-from, from-between, earlier-time, parts-ranged}
-use Rattle.records.proofs.KeyLaws.{Placed, right-placed}
+use Rattle.records.proofs.SoundnessRangeLaws.{From, between-from, from-between, earlier-time, parts-ranged}
+use Rattle.records.proofs.OrderKeysLaws.{Placed, right-placed}
 
 -- ---- words that are zero
 

@@ -1,4 +1,4 @@
 pub mod RowLaws
 pub mod PhasesLaws
 pub mod TableLaws
-pub mod SlotLaws
+pub mod TableSlotLaws

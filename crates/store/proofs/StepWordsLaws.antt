@@ -23,7 +23,7 @@ use Rattle.store.specs.Needs.{IsStep, KeptFirst, Taken, PlaceAsked}
 use Rattle.records.specs.declared.Record.{Record}
 use Rattle.store.specs.declared.changes.Step.{Step}
 use Rattle.records.proofs.RecordsLaws.{words-length, read-back, now-of-store, records-of-store, read-length, held-records, written-read}
-use Rattle.records.proofs.RangeLaws.{last-phase}
+use Rattle.records.proofs.SoundnessRangeLaws.{last-phase}
 use Rattle.records.proofs.PlacesLaws.{record-at, store-room}
 use Rattle.store.proofs.ChangesLaws.{left-at, words-append}
 use Rattle.store.proofs.SortingLaws.{no-records}

@@ -19,8 +19,8 @@ use Rattle.rows.specs.Phases.{phaseOf}
 use Rattle.records.specs.Order.{precedes, isSorted, hasId}
 use Rattle.records.specs.Soundness.{isRanged, allRanged, idsDistinct}
 use Rattle.records.specs.declared.Record.{Record}
-use Rattle.records.proofs.RangeLaws.{ranged-parts, parts-ranged}
-use Rattle.records.proofs.KeyLaws.{key-in-below}
+use Rattle.records.proofs.SoundnessRangeLaws.{ranged-parts, parts-ranged}
+use Rattle.records.proofs.OrderKeysLaws.{key-in-below}
 use Rattle.records.proofs.OrderLaws.{sorted-all, sorted-rest, sorted-cons, before-all, rest-other, first-alone, rest-distinct, distinct-cons}
 use Rattle.store.specs.Changes.{inserted, insertedAll, placedIn, stays, moves, replaced, steppedRecords}
 use Rattle.store.proofs.InsertedLaws.{inserted-front, inserted-all-swap, all-length, all-every, has-all, all-sorted}

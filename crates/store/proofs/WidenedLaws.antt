@@ -24,7 +24,7 @@ use Rattle.rows.proofs.TableLaws.{row-written, row-other, length-with-row}
 use Rattle.records.specs.Order.{keyIn, slotOfKey, numberOfKey, precedes}
 use Rattle.store.specs.Changes.{inserted, placedIn, replaced, widenedBy, widenedByAll}
 use Rattle.records.specs.declared.Record.{Record}
-use Rattle.records.proofs.KeyLaws.{slot-of-key-in}
+use Rattle.records.proofs.OrderKeysLaws.{slot-of-key-in}
 
 -- the row of a record's speeds alone
 abbrev pub ownRow : Record → Row

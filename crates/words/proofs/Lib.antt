@@ -1,2 +1,2 @@
-pub mod SteppedLaws
-pub mod PlacedLaws
+pub mod WordsSteppedLaws
+pub mod WordsPlacedLaws

@@ -37,9 +37,9 @@ pub record CanMove (w : Words) (step : Step) : Type 0 where
   pub whole-table : length (w .table) ≡ tableWords
   pub is-step : IsStep step
 
-pub record Moved (s t : List ℤ) (step : Step) (s′ t′ : List ℤ) : Type 0 where
+pub record Moved (s table : List ℤ) (step : Step) (s′ table′ : List ℤ) : Type 0 where
   pub store-is : s′ ≡ storeOf (nowOf s) (steppedRecords (step .now) (step .time) (recordsOf s))
-  pub table-is : t′ ≡ tableStepped (step .now) (step .time) (recordsOf s) t
+  pub table-is : table′ ≡ tableStepped (step .now) (step .time) (recordsOf s) table
 
 -- words that a change can be made to: those after a step are
 pub record CanChange (w : Words) : Type 0 where

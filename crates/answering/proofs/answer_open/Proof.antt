@@ -9,7 +9,7 @@ use Rattle.ints.proofs.Machine.{held}
 use Rattle.records.specs.Words.{Words, words}
 use Rattle.engine.specs.Index.{openOut}
 use Rattle.engine.specs.Gives.{Gives}
-use Rattle.engine.proofs.SmallAnswers.{SmallAnswer, open-small}
+use Rattle.engine.proofs.IndexSmallLaws.{SmallAnswer, open-small}
 use Rattle.lines.specs.Lines.{letterOf}
 use Rattle.answering.proofs.AnsweringLaws.{answer-room, answers-open}
 use borrow.Author.Needs.{needs}

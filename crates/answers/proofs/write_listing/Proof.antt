@@ -11,8 +11,8 @@ use lib.ListN.{length, getD, length-map}
 use mir.Syntax.{w32}
 use Rattle.ints.proofs.Machine.{back, got}
 use Rattle.lines.specs.Lines.{lineOf, Written}
-use Rattle.fields.proofs.NumberLaws.{small-at, length-fields, ids-writable}
-use Rattle.lines.proofs.LineLaws.{line-more}
+use Rattle.fields.proofs.NumbersLaws.{small-at, length-fields, ids-writable}
+use Rattle.lines.proofs.LinesLaws.{line-more}
 use borrow.Author.Needs.{needs}
 use Rattle.answers.proofs.write_listing.Statement.{statement}
 use Rattle.answers.proofs.write_listing.Tie as tie

@@ -6,7 +6,7 @@ use lib.Dec.{lit<}
 use lib.IntN.{pos}
 use mir.Syntax.{w32}
 use Rattle.ints.proofs.Machine.{back, got}
-use Rattle.fields.proofs.NumberLaws.{small-at}
+use Rattle.fields.proofs.NumbersLaws.{small-at}
 use borrow.Author.Needs.{needs}
 use Rattle.answers.proofs.write_start.Statement.{statement}
 use Rattle.answers.proofs.write_start.Tie as tie

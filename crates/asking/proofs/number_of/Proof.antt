@@ -8,7 +8,7 @@ use mir.Syntax.{w32}
 use mir.Val.{hbits}
 use Rattle.ints.proofs.Parts.{signed, abs, one-part}
 use Rattle.ints.proofs.Machine.{held}
-use Rattle.records.proofs.RangeLaws.{between-from}
+use Rattle.records.proofs.SoundnessRangeLaws.{between-from}
 use Rattle.asking.proofs.number_of.Statement.{statement}
 use Rattle.asking.proofs.number_of.Tie as tie
 

@@ -8,13 +8,13 @@ use Rattle.records.specs.Words.{words}
 use Rattle.ledger.specs.declared.Ask.{Ask}
 use Rattle.asking.specs.Asking.{GivesList}
 use Rattle.engine.specs.Index.{askOut}
-use Rattle.capi.specs.Replies.{askOf}
-use Rattle.capi.proofs.ReplyLaws.{replied-list}
+use Rattle.ledger.specs.Calls.{askOf}
+use Rattle.capi.proofs.RepliesLaws.{replied-list}
 use Rattle.capi.proofs.float_index_ask.Statement.{statement}
 use Rattle.capi.proofs.float_index_ask.Tie as tie
 
-ask-of-requires : tie.Need-ask-of-requires
-ask-of-requires c κs = search needs
+of-requires : tie.Need-of-requires
+of-requires c κs = search needs
 
 ask-requires : tie.Need-ask-requires
 ask-requires c κs = search needs
@@ -25,8 +25,8 @@ reply-of-requires c κs = search needs
 same-length : tie.Need-same-length
 same-length c = search needs
 
-ask-is : (c : tie.After-ask-of)
-    → c .ask-of .result ≡ askOf (c .before .before .before .args .method) (c .before .before .before .args .asked) (c .before .before .before .args .low-x)
+ask-is : (c : tie.After-of)
+    → c .of .result ≡ askOf (c .before .before .before .args .method) (c .before .before .before .args .asked) (c .before .before .before .args .low-x)
     (c .before .before .before .args .low-y) (c .before .before .before .args .high-x) (c .before .before .before .args .high-y)
 ask-is c =
     let a = c .before .before .before .args in
@@ -35,10 +35,9 @@ ask-is c =
       held w32 (a .asked) (search needs),
       held w32 (a .low-x) (search needs),
       held w32 (a .low-y) (search needs),
-      held w32 (a .high-x)
-          (search needs),
+      held w32 (a .high-x) (search needs),
       held w32 (a .high-y) (search needs),
-    ) at (c .ask-of .ensures)
+    ) at (c .of .ensures)
 
 returns : tie.Need-returns
 returns c =
@@ -52,4 +51,4 @@ returns c =
     (c .reply-of .ensures)
 
 pub float-index-ask-spec : {M : Type 1} → statement M
-float-index-ask-spec = tie.close (tie.spec ask-of-requires ask-requires reply-of-requires same-length returns)
+float-index-ask-spec = tie.close (tie.spec of-requires ask-requires reply-of-requires same-length returns)

@@ -5,7 +5,7 @@ use mir.Syntax.{w32}
 use Rattle.ints.proofs.Machine.{held}
 use Rattle.records.specs.Words.{words}
 use Rattle.engine.specs.Index.{clockOut}
-use Rattle.capi.proofs.ReplyLaws.{replied}
+use Rattle.capi.proofs.RepliesLaws.{replied}
 use Rattle.capi.proofs.float_index_clock.Statement.{statement}
 use Rattle.capi.proofs.float_index_clock.Tie as tie
 

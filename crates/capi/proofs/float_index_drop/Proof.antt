@@ -6,7 +6,7 @@ use Rattle.ints.proofs.Machine.{held}
 use Rattle.records.specs.Words.{words}
 use Rattle.ledger.specs.declared.Change.the-variants as Change
 use Rattle.engine.specs.Index.{changeOut}
-use Rattle.capi.proofs.ReplyLaws.{replied}
+use Rattle.capi.proofs.RepliesLaws.{replied}
 use Rattle.capi.proofs.float_index_drop.Statement.{statement}
 use Rattle.capi.proofs.float_index_drop.Tie as tie
 

@@ -10,7 +10,7 @@ use Rattle.ledger.specs.declared.Change.the-variants as Change
 use Rattle.engine.specs.Index.{changeOut}
 use Rattle.engine.specs.Gives.{Gives}
 use Rattle.grid.specs.Reports.{reportOf}
-use Rattle.capi.proofs.ReplyLaws.{replied}
+use Rattle.capi.proofs.RepliesLaws.{replied}
 use Rattle.capi.proofs.float_index_report.Statement.{statement}
 use Rattle.capi.proofs.float_index_report.Tie as tie
 

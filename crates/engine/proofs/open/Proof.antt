@@ -8,8 +8,9 @@ use Rattle.ints.proofs.Machine.{held, tested₁}
 use Rattle.records.specs.Words.{words}
 use Rattle.ledger.specs.Refusals.{firstToFail}
 use Rattle.words.specs.Words.{opened}
-use Rattle.engine.specs.Needs.{Done}
-use Rattle.engine.specs.Index.{openChecks, openOut}
+use Rattle.engine.specs.Sound.{Done}
+use Rattle.engine.specs.Index.{openOut}
+use Rattle.engine.specs.Checks.{openChecks}
 use Rattle.engine.proofs.ChecksLaws.{opens-rightly}
 use Rattle.engine.proofs.GivesLaws.{refused, done}
 use Rattle.engine.proofs.open.Statement.{statement}

@@ -11,8 +11,8 @@ use Rattle.records.specs.Soundness.{isRanged}
 use Rattle.store.specs.Changes.{inserted, placedIn, widenedBy}
 use Rattle.records.specs.declared.Record.{Record}
 use Prim.Native.Nat.{ℕ}
-use Rattle.records.proofs.RangeLaws.{last-phase, parts-ranged}
-use Rattle.records.proofs.KeyLaws.{key-in-below}
+use Rattle.records.proofs.SoundnessRangeLaws.{last-phase, parts-ranged}
+use Rattle.records.proofs.OrderKeysLaws.{key-in-below}
 use Rattle.records.specs.Words.{words}
 use Rattle.words.specs.Words.{placed}
 use Rattle.words.proofs.place.Statement.{statement}

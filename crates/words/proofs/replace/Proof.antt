@@ -5,7 +5,7 @@ use borrow.Author.Needs.{needs}
 use Rattle.records.specs.Words.{Words, words}
 use Rattle.words.specs.Words.{placed, takenOut}
 use Rattle.words.specs.Needs.{CanPlace}
-use Rattle.words.proofs.PlacedLaws.{can-place-again, taken-as}
+use Rattle.words.proofs.WordsPlacedLaws.{can-place-again, taken-as}
 use Rattle.words.proofs.replace.Statement.{statement}
 use Rattle.words.proofs.replace.Tie as tie
 

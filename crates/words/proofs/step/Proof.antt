@@ -14,7 +14,7 @@ use Rattle.records.specs.Records.{nowOf, recordsOf, storeOf}
 use Rattle.records.specs.Words.{Words, words}
 use Rattle.records.proofs.RecordsLaws.{store-words-of}
 use Rattle.words.specs.Needs.{Moved}
-use Rattle.words.proofs.SteppedLaws.{is-store, time-now, same-step, can-move, moved-store, later-step}
+use Rattle.words.proofs.WordsSteppedLaws.{is-store, time-now, same-step, can-move, moved-store, later-step}
 use Rattle.words.proofs.step.Statement.{statement}
 use Rattle.words.proofs.step.Tie as tie
 

@@ -38,7 +38,7 @@ returns c =
     let emptied = ap₂ (withNewlyLiveEmpty (a .args .table .now)) (a .pre .is-step .from-is) (a .pre .is-step .to-is) in
     record {
       store-is = m .step-records .ensures .0;
-      table-is = m .step-records .ensures .1 ∙ ap (λ (t : List ℤ). widenedByAll t anew) (e .empty-newly-live .ensures ∙ emptied);
+      table-is = m .step-records .ensures .1 ∙ ap (λ (table : List ℤ). widenedByAll table anew) (e .empty-newly-live .ensures ∙ emptied);
     }
 
 pub step-phase-spec : {M : Type 1} → statement M

@@ -1,7 +1,7 @@
 -- `words::take_out` meets its contract: the record goes and the table stays.
 -- Assumes nothing.
 use borrow.Author.Needs.{needs}
-use Rattle.words.proofs.PlacedLaws.{taken-out}
+use Rattle.words.proofs.WordsPlacedLaws.{taken-out}
 use Rattle.words.proofs.take_out.Statement.{statement}
 use Rattle.words.proofs.take_out.Tie as tie
 

@@ -7,7 +7,7 @@ use native.Mathlib.Omega.{arith}
 use denote.Ref.{now}
 use Rattle.methods.specs.Methods.{boundsIn}
 use Rattle.methods.specs.Slots.{rowsOfSlot}
-use Rattle.choosing.proofs.Passes.{rowsFrom, rows-none, rows-whole}
+use Rattle.choosing.proofs.ChoosingPassesLaws.{rowsFrom, rows-none, rows-whole}
 use Rattle.choosing.proofs.BoundsLaws.{boundsFor, no-bounds, bounds-of-rows}
 use borrow.Author.Needs.{needs}
 use Rattle.choosing.proofs.bounds.block_bounds.Statement.{statement}

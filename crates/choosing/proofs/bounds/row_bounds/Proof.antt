@@ -6,7 +6,7 @@ use Prim.Native.Nat.{_+_, _≤_, min}
 use native.Mathlib.Omega.{arith}
 use denote.Ref.{now}
 use Rattle.methods.specs.Slots.{rowsOfSlot}
-use Rattle.choosing.proofs.Passes.{rowFrom, row-none, row-whole}
+use Rattle.choosing.proofs.ChoosingPassesLaws.{rowFrom, row-none, row-whole}
 use Rattle.choosing.proofs.BoundsLaws.{boundsFor, no-bounds, bounds-of-row}
 use borrow.Author.Needs.{needs}
 use Rattle.choosing.proofs.bounds.row_bounds.Statement.{statement}

@@ -12,7 +12,7 @@ use Rattle.records.specs.Order.{hasId}
 use Rattle.records.proofs.RecordsLaws.{held-records, store-words-of}
 use Rattle.ledger.specs.Refusals.{firstToFail, badStepTime, timeOf, idOf, heldChecks, changeChecks}
 use Rattle.ledger.specs.declared.Verdict.{Verdict}
-use Rattle.engine.specs.Index.{checksOfChange}
+use Rattle.engine.specs.Checks.{checksOfChange}
 use Rattle.ledger.specs.declared.Refusal.the-variants.{BadTime, BadNumber}
 use Rattle.ledger.proofs.RefusalsLaws.{fails, passes}
 use Rattle.engine.proofs.ChecksLaws.{judged-after}

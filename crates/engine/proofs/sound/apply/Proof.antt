@@ -4,9 +4,9 @@ use mathlib.Core.Path.{sym, ap, _∙_, subst}
 use borrow.Author.Needs.{needs}
 use Rattle.records.specs.Words.{words}
 use Rattle.ledger.specs.declared.Change.{Change}
-use Rattle.words.proofs.PlacedLaws.{taken-as}
+use Rattle.words.proofs.WordsPlacedLaws.{taken-as}
 use Rattle.engine.specs.Index.{changed}
-use Rattle.engine.specs.Needs.{CanApply}
+use Rattle.engine.specs.Sound.{CanApply}
 use Rattle.engine.proofs.ChecksLaws.{can-add, can-report}
 use Rattle.engine.proofs.sound.apply.Statement.{statement}
 use Rattle.engine.proofs.sound.apply.Tie as tie

@@ -12,7 +12,7 @@ use Rattle.words.specs.Words.{stepped}
 use Rattle.ledger.specs.Refusals.{firstToFail, badStepTime, clockChecks}
 use Rattle.ledger.specs.declared.Refusal.the-variants.{BadTime}
 use Rattle.ledger.proofs.RefusalsLaws.{first-passed}
-use Rattle.engine.specs.Needs.{Done}
+use Rattle.engine.specs.Sound.{Done}
 use Rattle.engine.specs.Index.{clockOut}
 use Rattle.engine.proofs.ChecksLaws.{sound-store, sound-lent, can-step}
 use Rattle.engine.proofs.GivesLaws.{refused, done}

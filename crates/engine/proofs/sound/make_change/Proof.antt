@@ -11,7 +11,7 @@ use Rattle.records.proofs.RecordsLaws.{store-words-of}
 use Rattle.words.specs.Words.{stepped}
 use Rattle.words.specs.Needs.{CanStep}
 use Rattle.ledger.specs.Refusals.{timeOf}
-use Rattle.engine.specs.Needs.{CanApply}
+use Rattle.engine.specs.Sound.{CanApply}
 use Rattle.engine.specs.Index.{changed}
 use Rattle.engine.proofs.ChecksLaws.{sound-store, change-can-step, change-can-apply}
 use Rattle.engine.proofs.GivesLaws.{done-of}

@@ -9,7 +9,7 @@ use Rattle.ints.proofs.Machine.{held}
 use Rattle.records.specs.Words.{words}
 use Rattle.records.proofs.RecordsLaws.{store-words-of}
 use Rattle.words.specs.Words.{stepped}
-use Rattle.words.proofs.SteppedLaws.{is-store}
+use Rattle.words.proofs.WordsSteppedLaws.{is-store}
 use Rattle.engine.proofs.GivesLaws.{done-of}
 use Rattle.engine.proofs.sound.make_step.Statement.{statement}
 use Rattle.engine.proofs.sound.make_step.Tie as tie

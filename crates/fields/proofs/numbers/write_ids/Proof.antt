@@ -13,7 +13,7 @@ use Rattle.fields.specs.Numbers.{fields, nth}
 use Rattle.fields.specs.Put.{put}
 use Rattle.fields.specs.Writing.{tenColumns}
 use Rattle.fields.proofs.WritingLaws.{field-above}
-use Rattle.fields.proofs.NumberLaws.{pos-writable, left, left-all, left-next, left-none}
+use Rattle.fields.proofs.NumbersLaws.{pos-writable, left, left-all, left-next, left-none}
 use Rattle.fields.proofs.numbers.write_ids.Statement.{statement}
 use Rattle.fields.proofs.numbers.write_ids.Tie as tie
 

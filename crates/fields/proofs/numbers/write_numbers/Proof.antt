@@ -9,7 +9,7 @@ use lib.ListN.{length}
 use Rattle.fields.specs.Fields.{fieldOf, isWritable}
 use Rattle.fields.specs.Numbers.{fields, nth}
 use Rattle.fields.specs.Put.{put}
-use Rattle.fields.proofs.NumberLaws.{writable-at, writable-back, left, left-all, left-next, left-none}
+use Rattle.fields.proofs.NumbersLaws.{writable-at, writable-back, left, left-all, left-next, left-none}
 use Rattle.fields.proofs.numbers.write_numbers.Statement.{statement}
 use Rattle.fields.proofs.numbers.write_numbers.Tie as tie
 

@@ -6,7 +6,7 @@ use lib.IntN.{ℤ}
 use mir.Syntax.{w32, w64}
 use Rattle.ints.proofs.Machine.{back, called₁, held}
 use Rattle.lines.specs.Lines.{rectNumbers}
-use Rattle.fields.proofs.NumberLaws.{writable-at}
+use Rattle.fields.proofs.NumbersLaws.{writable-at}
 use borrow.Author.Needs.{needs}
 use Rattle.lines.proofs.writing.corners_of.Statement.{statement}
 use Rattle.lines.proofs.writing.corners_of.Tie as tie

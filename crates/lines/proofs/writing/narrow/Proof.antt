@@ -5,7 +5,7 @@ use native.Mathlib.Omega.{arith}
 use mir.Syntax.{w64}
 use Rattle.ints.proofs.Machine.{back, fits, held}
 use Rattle.fields.proofs.WritingLaws.{in-range}
-use Rattle.fields.proofs.NumberLaws.{writable-back}
+use Rattle.fields.proofs.NumbersLaws.{writable-back}
 use Rattle.lines.proofs.writing.narrow.Statement.{statement}
 use Rattle.lines.proofs.writing.narrow.Tie as tie
 

@@ -10,7 +10,7 @@ use Rattle.ledger.specs.declared.Ask.{Ask}
 use Rattle.ints.proofs.Machine.{back, held}
 use Rattle.lines.specs.declared.writing.Corners.{Corners}
 use Rattle.lines.specs.Lines.{lineOf, letterOf, askNumbers, numbersOf, callLine, Room, Written}
-use Rattle.fields.proofs.NumberLaws.{rest-writable}
+use Rattle.fields.proofs.NumbersLaws.{rest-writable}
 use borrow.Author.Needs.{needs}
 use Rattle.lines.proofs.writing.write_ask.Statement.{statement}
 use Rattle.lines.proofs.writing.write_ask.Tie as tie

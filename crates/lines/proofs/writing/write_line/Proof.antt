@@ -5,8 +5,8 @@ use native.Mathlib.Omega.{arith}
 use borrow.Author.Needs.{needs}
 use denote.Ref.{now}
 use lib.ListN.{length-set}
-use Rattle.fields.proofs.NumberLaws.{length-fields}
-use Rattle.lines.proofs.LineLaws.{put-line}
+use Rattle.fields.proofs.NumbersLaws.{length-fields}
+use Rattle.lines.proofs.LinesLaws.{put-line}
 use Rattle.lines.proofs.writing.write_line.Statement.{statement}
 use Rattle.lines.proofs.writing.write_line.Tie as tie
 

@@ -8,7 +8,7 @@ use native.Mathlib.Omega.{arith}
 use borrow.Author.Tests.{not-true, not-false}
 use Rattle.records.specs.Records.{recordWords, recordFrom, readRecords}
 use Rattle.records.specs.Order.{precedes, isSorted}
-use Rattle.records.proofs.TurnLaws.{left, left-at-first, not-in-order, in-order, in-order-to-the-end}
+use Rattle.records.proofs.RecordsTurnLaws.{left, left-at-first, not-in-order, in-order, in-order-to-the-end}
 use Rattle.records.proofs.order.is_sorted.Statement.{statement}
 use Rattle.records.proofs.order.is_sorted.Tie as tie
 

@@ -10,8 +10,8 @@ use Rattle.grid.proofs.PlacesLaws.{cell-on}
 use Rattle.rows.specs.Phases.{referenceTime}
 use Rattle.rows.proofs.PhasesLaws.{slot-on}
 use Rattle.records.specs.Order.{keyAt, keyIn}
-use Rattle.records.proofs.RangeLaws.{small-report}
-use Rattle.records.proofs.KeyLaws.{cell-number-below}
+use Rattle.records.proofs.SoundnessRangeLaws.{small-report}
+use Rattle.records.proofs.OrderKeysLaws.{cell-number-below}
 use borrow.Author.Needs.{needs}
 use Rattle.records.proofs.order.key_in.Statement.{statement}
 use Rattle.records.proofs.order.key_in.Tie as tie

@@ -2,7 +2,7 @@
 -- Assumes nothing.
 use mathlib.Core.Path.{sym}
 use native.Mathlib.Omega.{arith}
-use Rattle.records.proofs.KeyLaws.{no-such-slot, phase-too-far, phase-back}
+use Rattle.records.proofs.OrderKeysLaws.{no-such-slot, phase-too-far, phase-back}
 use borrow.Author.Needs.{needs}
 use Rattle.records.proofs.order.phase_with_slot.Statement.{statement}
 use Rattle.records.proofs.order.phase_with_slot.Tie as tie

@@ -12,7 +12,7 @@ use Rattle.ints.proofs.Machine.{back, held}
 use lib.IntN.{ℤ}
 use Rattle.records.specs.Records.{recordWords, recordFrom, readRecords}
 use Rattle.records.specs.Soundness.{isSoundRecord, allSound}
-use Rattle.records.proofs.TurnLaws.{left, left-at-first, failed-here, passed-here, passed-all}
+use Rattle.records.proofs.RecordsTurnLaws.{left, left-at-first, failed-here, passed-here, passed-all}
 use Rattle.records.proofs.soundness.all_sound.Statement.{statement}
 use Rattle.records.proofs.soundness.all_sound.Tie as tie
 

@@ -12,7 +12,7 @@ use mir.Syntax.{w32}
 use Rattle.ints.specs.Whole.{eqZ}
 use Rattle.ints.proofs.Machine.{tested₁}
 use Rattle.records.specs.Soundness.{allZero}
-use Rattle.records.proofs.TurnLaws.{not-zero, zero-so-far, zero-to-the-end}
+use Rattle.records.proofs.RecordsTurnLaws.{not-zero, zero-so-far, zero-to-the-end}
 use Rattle.records.proofs.soundness.all_zero.Statement.{statement}
 use Rattle.records.proofs.soundness.all_zero.Tie as tie
 

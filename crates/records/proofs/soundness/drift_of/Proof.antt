@@ -4,7 +4,7 @@ use mathlib.Core.Path.{_∙_}
 use mir.Syntax.{w16}
 use borrow.Author.Needs.{needs}
 use Rattle.ints.proofs.Machine.{held}
-use Rattle.records.proofs.RangeLaws.{ranges, speed-held}
+use Rattle.records.proofs.SoundnessRangeLaws.{ranges, speed-held}
 use Rattle.records.proofs.soundness.drift_of.Statement.{statement}
 use Rattle.records.proofs.soundness.drift_of.Tie as tie
 

@@ -14,9 +14,9 @@ use Rattle.ints.specs.Whole.{up}
 use Rattle.ints.proofs.Machine.{held, tested₁}
 use Rattle.records.specs.Records.{recordWords, recordFrom, readRecords}
 use Rattle.records.specs.Soundness.{idsDistinct, isRanged, allRanged}
-use Rattle.records.proofs.RangeLaws.{from-between, id-from}
-use Rattle.records.proofs.TurnLaws.{left, left-at-first, ranged-here}
-use Rattle.records.proofs.IdMarkLaws.{stillDistinct, distinct-at-first, seen-twice, seen-once, all-seen}
+use Rattle.records.proofs.SoundnessRangeLaws.{from-between, id-from}
+use Rattle.records.proofs.RecordsTurnLaws.{left, left-at-first, ranged-here}
+use Rattle.records.proofs.SoundnessIdsLaws.{stillDistinct, distinct-at-first, seen-twice, seen-once, all-seen}
 use Rattle.records.proofs.soundness.ids_distinct.Statement.{statement}
 use Rattle.records.proofs.soundness.ids_distinct.Tie as tie
 

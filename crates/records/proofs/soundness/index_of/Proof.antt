@@ -3,7 +3,7 @@
 use native.Mathlib.Omega.{arith}
 use Rattle.ints.proofs.Parts.{signed}
 use Rattle.ints.proofs.Machine.{known}
-use Rattle.records.proofs.RangeLaws.{between-from}
+use Rattle.records.proofs.SoundnessRangeLaws.{between-from}
 use Rattle.records.proofs.soundness.index_of.Statement.{statement}
 use Rattle.records.proofs.soundness.index_of.Tie as tie
 

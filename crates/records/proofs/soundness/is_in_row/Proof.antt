@@ -7,7 +7,7 @@ use Rattle.ints.proofs.Machine.{tested₁}
 use Rattle.rows.specs.Row.{holds}
 use Rattle.rows.specs.Table.{rowAt}
 use Rattle.records.specs.Order.{slotOfKey, numberOfKey}
-use Rattle.records.proofs.RangeLaws.{ranged-parts, slot-below, number-of-key-below}
+use Rattle.records.proofs.SoundnessRangeLaws.{ranged-parts, slot-below, number-of-key-below}
 use borrow.Author.Needs.{needs}
 use Rattle.records.proofs.soundness.is_in_row.Statement.{statement}
 use Rattle.records.proofs.soundness.is_in_row.Tie as tie

@@ -9,7 +9,7 @@ use Rattle.ints.proofs.Machine.{held, tested₁, tested₂}
 use Rattle.ints.specs.Whole.{between}
 use Rattle.grid.specs.Reports.{inRange}
 use Rattle.records.specs.Soundness.{keyIsRight, isSoundRecord}
-use Rattle.records.proofs.RangeLaws.{earlier-time}
+use Rattle.records.proofs.SoundnessRangeLaws.{earlier-time}
 use borrow.Author.Needs.{needs}
 use Rattle.records.proofs.soundness.is_sound_record.Statement.{statement}
 use Rattle.records.proofs.soundness.is_sound_record.Tie as tie

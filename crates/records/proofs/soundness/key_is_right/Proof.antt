@@ -14,8 +14,8 @@ use Rattle.rows.specs.Phases.{phaseOf}
 use Rattle.records.specs.Order.{keyIn, phaseOfKey}
 use Rattle.records.specs.Soundness.{keyIsRight}
 use Rattle.records.specs.declared.Record.{Record}
-use Rattle.records.proofs.RangeLaws.{last-phase}
-use Rattle.records.proofs.KeyLaws.{phase-of-key-small}
+use Rattle.records.proofs.SoundnessRangeLaws.{last-phase}
+use Rattle.records.proofs.OrderKeysLaws.{phase-of-key-small}
 use borrow.Author.Needs.{needs}
 use Rattle.records.proofs.soundness.key_is_right.Statement.{statement}
 use Rattle.records.proofs.soundness.key_is_right.Tie as tie

@@ -8,7 +8,7 @@ use mir.Val.{SFits}
 use mir.Facts.{toZ-ofZ}
 use Rattle.ints.proofs.Parts.{abs, one-part}
 use Rattle.ints.proofs.Machine.{back, fits, held}
-use Rattle.records.proofs.RangeLaws.{speed-size}
+use Rattle.records.proofs.SoundnessRangeLaws.{speed-size}
 use Rattle.records.proofs.soundness.narrow.Statement.{statement}
 use Rattle.records.proofs.soundness.narrow.Tie as tie
 

@@ -9,7 +9,7 @@ use native.Mathlib.Omega.{arith}
 use borrow.Author.Tests.{not-true, not-false}
 use Rattle.records.specs.Records.{recordWords, recordFrom, readRecords}
 use Rattle.records.specs.Soundness.{inOwnRow, speedsInRows, allRanged}
-use Rattle.records.proofs.TurnLaws.{left, left-at-first, ranged-here, failed-here, passed-here, passed-all}
+use Rattle.records.proofs.RecordsTurnLaws.{left, left-at-first, ranged-here, failed-here, passed-here, passed-all}
 use Rattle.records.proofs.soundness.speeds_in_rows.Statement.{statement}
 use Rattle.records.proofs.soundness.speeds_in_rows.Tie as tie
 

@@ -21,7 +21,7 @@ use Rattle.rows.proofs.table.all_valid.Tie as tie
 
 -- whether the rows from the number at k on are valid
 abbrev left : List ℤ → ℕ → Bool
-left t k = validRows ((tableWords - k) / 4) (drop k t)
+left table k = validRows ((tableWords - k) / 4) (drop k table)
 
 abbrev Inv-loop : tie.InvT-loop
 Inv-loop table k₀ k = (k ≤ tableWords) × (k % 4 ≡ 0) × (validTable table ≡ left table k)
@@ -29,13 +29,13 @@ Inv-loop table k₀ k = (k ≤ tableWords) × (k % 4 ≡ 0) × (validTable table
 abbrev μ-loop : tie.MeasureT-loop
 μ-loop table k₀ k = tableWords - k
 
-next : (t : List ℤ) (k : ℕ) → k < tableWords → k % 4 ≡ 0 → left t k ≡ validRow (rowFrom t k) && left t (k + 4)
+next : (table : List ℤ) (k : ℕ) → k < tableWords → k % 4 ≡ 0 → left table k ≡ validRow (rowFrom table k) && left table (k + 4)
 unfolding validRows
-next t k h m =
+next table k h m =
     let n = (tableWords - (k + 4)) / 4 in
     let e : (tableWords - k) / 4 ≡ suc n = omega arith in
-    ap (λ (i : ℕ). validRows i (drop k t)) e
-    ∙ ap₂ _&&_ (ap validRow (row-drop k t 0 ∙ ap (rowFrom t) (add-zero k))) (ap (validRows n) (drop-drop 4 k t))
+    ap (λ (i : ℕ). validRows i (drop k table)) e
+    ∙ ap₂ _&&_ (ap validRow (row-drop k table 0 ∙ ap (rowFrom table) (add-zero k))) (ap (validRows n) (drop-drop 4 k table))
 
 loop-holds : tie.Need-loop-holds Inv-loop μ-loop
 loop-holds c = (omega arith, omega arith, refl)
@@ -53,9 +53,9 @@ turn :
     ≡ c .is-valid .result && left (now (c .before .before .before .before .args .table)) (c .before .before .before .loop .k + 4)
 turn c =
     let h = c .before .before .before in
-    let t = now (h .before .args .table) in
+    let table = now (h .before .args .table) in
     let row = c .is-valid .ensures ∙ ap validRow (c .before .read-from .ensures) in
-    h .loop .inv .2 ∙ next t (h .loop .k) (omega arith) (omega arith) ∙ ap (λ (b : Bool). b && left t (h .loop .k + 4)) (sym row)
+    h .loop .inv .2 ∙ next table (h .loop .k) (omega arith) (omega arith) ∙ ap (λ (b : Bool). b && left table (h .loop .k + 4)) (sym row)
 
 returns : tie.Need-returns Inv-loop μ-loop
 returns c = sym (turn (c .before) ∙ simp (not-true (c .before .is-valid .result) (c .if1 .taken)))
@@ -69,9 +69,9 @@ loop-less c = omega arith
 loop-again : tie.Need-loop-again Inv-loop μ-loop
 loop-again c = (omega arith, omega arith, turn (c .before) ∙ simp (not-false (c .before .is-valid .result) (c .if1 .left)))
 
-none-left : (t : List ℤ) (k : ℕ) → k ≡ tableWords → left t k ≡ true
+none-left : (table : List ℤ) (k : ℕ) → k ≡ tableWords → left table k ≡ true
 unfolding validRows
-none-left t k e = let z : (tableWords - k) / 4 ≡ 0 = omega arith in rw z
+none-left table k e = let z : (tableWords - k) / 4 ≡ 0 = omega arith in rw z
 
 returns-2 : tie.Need-returns-2 Inv-loop μ-loop
 returns-2 c =

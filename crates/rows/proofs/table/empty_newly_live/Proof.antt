@@ -35,7 +35,7 @@ returns-2 c =
     let first = second .before .before .before .before in
     let a = first .before .before in
     second .empty-if-later2 .ensures
-    ∙ ap (λ (t : List ℤ). emptiedIfLater t (a .args .earlier) (a .args .c - 1)) (first .empty-if-later .ensures)
+    ∙ ap (λ (table : List ℤ). emptiedIfLater table (a .args .earlier) (a .args .c - 1)) (first .empty-if-later .ensures)
     ∙ sym (two-live (now (a .args .table)) (a .args .earlier) (a .args .c) (omega arith) (omega arith))
 
 empty-if-later-requires-3 : tie.Need-empty-if-later-requires-3
@@ -51,8 +51,8 @@ returns-3 c =
     let first = second .before .before .before .before in
     let a = first .before .before in
     third .empty-if-later3 .ensures
-    ∙ ap (λ (t : List ℤ). emptiedIfLater t (a .args .earlier) (a .args .c - 2))
-    (second .empty-if-later2 .ensures ∙ ap (λ (t : List ℤ). emptiedIfLater t (a .args .earlier) (a .args .c - 1)) (first .empty-if-later .ensures))
+    ∙ ap (λ (table : List ℤ). emptiedIfLater table (a .args .earlier) (a .args .c - 2))
+    (second .empty-if-later2 .ensures ∙ ap (λ (table : List ℤ). emptiedIfLater table (a .args .earlier) (a .args .c - 1)) (first .empty-if-later .ensures))
     ∙ sym (three-live (now (a .args .table)) (a .args .earlier) (a .args .c) (omega arith))
 
 pub empty-newly-live-spec : {M : Type 1} → statement M

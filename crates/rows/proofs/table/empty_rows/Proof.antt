@@ -22,11 +22,12 @@ Inv-loop third₀ k₀ third k =
 abbrev μ-loop : tie.MeasureT-loop
 μ-loop third₀ k₀ third k = slotWords - k
 
-more : (t : List ℤ) (k : ℕ) → k + 3 < length t → k % 4 ≡ 0 → ((i : ℕ) → 4 * i < k → rowFrom t (4 * i) ≡ emptyRow) → (i : ℕ) → 4 * i < k + 4 → rowFrom (put t k emptyRow) (4 * i) ≡ emptyRow
-more t k h whole before i l =
+more : (table : List ℤ) (k : ℕ) → k + 3 < length table → k % 4 ≡ 0 → ((i : ℕ) → 4 * i < k → rowFrom table (4 * i) ≡ emptyRow)
+    → (i : ℕ) → 4 * i < k + 4 → rowFrom (put table k emptyRow) (4 * i) ≡ emptyRow
+more table k h whole before i l =
     dite (ℕ-discrete (4 * i) k)
-    (λ e. ap (rowFrom (put t k emptyRow)) e ∙ put-same t k emptyRow h)
-    (λ n. put-other t k emptyRow (4 * i) (λ a b p q e. n (omega arith)) ∙ before i (omega arith))
+    (λ e. ap (rowFrom (put table k emptyRow)) e ∙ put-same table k emptyRow h)
+    (λ n. put-other table k emptyRow (4 * i) (λ a b p q e. n (omega arith)) ∙ before i (omega arith))
 
 loop-holds : tie.Need-loop-holds Inv-loop μ-loop
 loop-holds c = (omega arith, omega arith, c .pre, λ i h. absurd (omega arith))

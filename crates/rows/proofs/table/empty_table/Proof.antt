@@ -26,7 +26,7 @@ returns c =
     let second = third .before .before .before in
     let first = second .before .before .before in
     third .empty-slot3 .ensures
-    ∙ ap (λ (t : List ℤ). withSlotEmpty t 2) (second .empty-slot2 .ensures ∙ ap (λ (t : List ℤ). withSlotEmpty t 1) (first .empty-slot .ensures))
+    ∙ ap (λ (table : List ℤ). withSlotEmpty table 2) (second .empty-slot2 .ensures ∙ ap (λ (table : List ℤ). withSlotEmpty table 1) (first .empty-slot .ensures))
 
 pub empty-table-spec : {M : Type 1} → statement M
 empty-table-spec =

@@ -17,7 +17,7 @@ use Rattle.rows.proofs.table.slot_bounds.Tie as tie
 
 -- the bounds of the rows from `number` on
 abbrev left : List ℤ → ℕ → ℕ → Row
-left t slot number = boundsOf (slotRows t slot number (cells - number))
+left table slot number = boundsOf (slotRows table slot number (cells - number))
 
 abbrev Inv-loop : tie.InvT-loop
 Inv-loop table slot bounds₀ number₀ bounds number = (number ≤ cells) × (bounds ≡ left table slot number)
@@ -25,9 +25,9 @@ Inv-loop table slot bounds₀ number₀ bounds number = (number ≤ cells) × (b
 abbrev μ-loop : tie.MeasureT-loop
 μ-loop table slot bounds₀ number₀ bounds number = number
 
-more : (t : List ℤ) (slot number : ℕ) → 0 < number → number ≤ cells → joined (rowAt t slot (number - 1)) (left t slot number) ≡ left t slot (number - 1)
+more : (table : List ℤ) (slot number : ℕ) → 0 < number → number ≤ cells → joined (rowAt table slot (number - 1)) (left table slot number) ≡ left table slot (number - 1)
 unfolding slotRows boundsOf
-more t slot number h k =
+more table slot number h k =
     let e : cells - (number - 1) ≡ suc (cells - number) = omega arith in
     let n : suc (number - 1) ≡ number = omega arith in
     rw (e, n)

@@ -6,7 +6,7 @@ use mathlib.Core.Path.{sym, ap, _∙_}
 use mathlib.Core.Bool.{not}
 use Prim.Native.Nat.{ℕ, _-_}
 use Rattle.rows.specs.Phases.{phaseOf}
-use Rattle.records.proofs.RangeLaws.{ranged-parts}
+use Rattle.records.proofs.SoundnessRangeLaws.{ranged-parts}
 use Rattle.records.proofs.PlacesLaws.{store-room}
 use Rattle.store.specs.Changes.{placedIn, stays, moves}
 use Rattle.store.proofs.StepWordsLaws.{to-small, Pass, pass-start, pass-ranged, pass-live, pass-dead, pass-end}

@@ -7,7 +7,7 @@ use mir.Syntax.{w32}
 use Rattle.ints.proofs.Machine.{back, tested₁}
 use Rattle.rows.specs.Phases.{isLive}
 use Rattle.records.specs.Order.{phaseOfKey}
-use Rattle.records.proofs.KeyLaws.{phase-of-key-small}
+use Rattle.records.proofs.OrderKeysLaws.{phase-of-key-small}
 use Rattle.store.proofs.StepWordsLaws.{from-small, stays-is}
 use Rattle.store.proofs.changes.stays.Statement.{statement}
 use Rattle.store.proofs.changes.stays.Tie as tie

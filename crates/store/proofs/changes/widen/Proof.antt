@@ -7,7 +7,7 @@ use mir.Syntax.{w32}
 use Rattle.ints.proofs.Machine.{tested₁}
 use Rattle.rows.specs.Table.{withDrift}
 use Rattle.records.specs.Order.{slotOfKey, numberOfKey}
-use Rattle.records.proofs.RangeLaws.{ranged-parts, slot-below, number-of-key-below}
+use Rattle.records.proofs.SoundnessRangeLaws.{ranged-parts, slot-below, number-of-key-below}
 use Rattle.store.proofs.changes.widen.Statement.{statement}
 use Rattle.store.proofs.changes.widen.Tie as tie
 

@@ -29,14 +29,14 @@ use Rattle.records.specs.Order.{slotOfKey, numberOfKey, hasId}
 use Rattle.records.specs.Soundness.{idsDistinct}
 use Rattle.reading.specs.Reading.{inSet, isRead, withIds, risingFrom}
 use Rattle.records.specs.declared.Record.{Record}
-use Rattle.records.proofs.RangeLaws.{ranges}
+use Rattle.records.proofs.SoundnessRangeLaws.{ranges}
 use Rattle.records.proofs.SoundnessLaws.{SoundRecord, Sound, sound-parts}
 use Rattle.reading.proofs.ListedLaws.{idOf, ids-marked, rising-in, rising-has, rising-rises}
 use Rattle.ledger.specs.Machine.{putInOrder}
-use Rattle.ledger.proofs.IdsInOrderLaws.{inOrder, in-order-in, in-order-has, in-order-length, Apart, empty, more, in-order-rising}
+use Rattle.ledger.proofs.MachineIdsLaws.{inOrder, in-order-in, in-order-has, in-order-length, Apart, empty, more, in-order-rising}
 use Rattle.asking.specs.Asking.{marksIn, listedOf, foundIn, phasesNow, idsNeeded, idsFound}
 use Rattle.asking.specs.Claims.{idsInside, ListIsExact}
-use Rattle.asking.proofs.PhaseReadingLaws.{FitAsk, fit-ask, phaseOfRecord, isInside, isInsideIn, float-at, listed-of-phase, needed-is}
+use Rattle.asking.proofs.AskingPhasesLaws.{FitAsk, fit-ask, phaseOfRecord, isInside, isInsideIn, float-at, listed-of-phase, needed-is}
 
 -- ---- the ids inside
 

@@ -26,16 +26,16 @@ use Rattle.records.proofs.RecordsLaws.{now-of-store, records-of-store, store-of
 use Rattle.store.proofs.SteppedLaws.{stepped-few, stepped-ranged, stepped-sorted}
 use Rattle.store.proofs.WidenedLaws.{with-speeds-length}
 use Rattle.records.proofs.SoundnessLaws as Sound
-use Rattle.records.proofs.KeyLaws.{right-placed}
+use Rattle.records.proofs.OrderKeysLaws.{right-placed}
 use Rattle.records.specs.Words.{Words, words, timeIn, recordsIn}
 use Rattle.words.specs.Words.{tableStepped, stepped}
 use Rattle.words.specs.Needs.{CanStep, CanMove, Moved, CanChange}
 
-nothing-new : (c : ℕ) (t : List ℤ) (ps : List ℕ) → ((p : ℕ) → List·Memᴰ p ps → p ≤ c) → withLaterEmpty t c ps ≡ t
+nothing-new : (c : ℕ) (table : List ℤ) (ps : List ℕ) → ((p : ℕ) → List·Memᴰ p ps → p ≤ c) → withLaterEmpty table c ps ≡ table
 unfolding withLaterEmpty
-nothing-new c t [] h = refl
-nothing-new c t (p ∷ ps) h =
-    rw (le-ltb c p (h p (List·Memᴰ·head refl))) (nothing-new c t ps (λ x m. h x (List·Memᴰ·tail m)))
+nothing-new c table [] h = refl
+nothing-new c table (p ∷ ps) h =
+    rw (le-ltb c p (h p (List·Memᴰ·head refl))) (nothing-new c table ps (λ x m. h x (List·Memᴰ·tail m)))
 
 module _ (w : Words) (time : ℤ) (can : CanStep w time) where
   is-sound : Sound.Sound (w .store) (w .table)
@@ -104,14 +104,14 @@ module _ (w : Words) (time : ℤ) (can : CanStep w time) where
     can-move i = record { is-store = is-store; whole-table = is-sound .table-long; is-step = i }
 
     -- the records are those of a store, and the time is set last
-    module _ (s′ t′ : List ℤ) (m : Moved (w .store) (w .table) step s′ t′) where
+    module _ (s′ table′ : List ℤ) (m : Moved (w .store) (w .table) step s′ table′) where
       store-then : s′ ≡ storeOf now (steppedRecords now time records)
       store-then = m .store-is ∙ ap₂ (λ (n t : ℤ). storeOf now (steppedRecords n t records)) from-now to-time
 
       pub moved-store : IsStore s′
       moved-store = rw store-then (store-of now (steppedRecords now time records) few ranged sorted)
 
-      pub later-step : (s″ : List ℤ) → s″ ≡ storeOf time (recordsOf s′) → words s″ t′ ≡ stepped time w
+      pub later-step : (s″ : List ℤ) → s″ ≡ storeOf time (recordsOf s′) → words s″ table′ ≡ stepped time w
       unfolding stepped
       later-step s″ e =
           ap₂ words

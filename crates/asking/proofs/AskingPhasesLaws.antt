@@ -36,13 +36,13 @@ use Rattle.records.specs.Words.{Words, timeIn, recordsIn}
 use Rattle.records.specs.Order.{slotOfKey, numberOfKey, phaseOfKey}
 use Rattle.records.specs.Soundness.{inOwnRow}
 use Rattle.records.specs.declared.Record.{Record}
-use Rattle.records.proofs.RangeLaws.{time-from}
-use Rattle.records.proofs.KeyLaws.{number-of-key-in}
+use Rattle.records.proofs.SoundnessRangeLaws.{time-from}
+use Rattle.records.proofs.OrderKeysLaws.{number-of-key-in}
 use Rattle.records.proofs.SoundnessLaws.{SoundRecord, all-sound-each, Sound}
 use Rattle.reading.specs.Reading.{inSet, isRead}
 use Rattle.ledger.specs.Refusals.{badAskTime, badAsk, isRectangle}
 use Rattle.ledger.specs.declared.Ask.{Ask}
-use Rattle.ledger.proofs.SummedLaws.{summed-same, phases-summed}
+use Rattle.ledger.proofs.MachineSummedLaws.{summed-same, phases-summed}
 use Rattle.asking.specs.Asking.{choiceOf, marksIn, listedOf, idsNeeded}
 
 -- ---- what an ask that is not declined for its numbers asks for

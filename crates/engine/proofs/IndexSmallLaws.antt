@@ -22,8 +22,8 @@ use Rattle.store.proofs.SteppedLaws.{stepped-length}
 use Rattle.store.proofs.InsertedLaws.{inserted-length}
 use Rattle.words.specs.Words.{stepped, takenOut}
 use Rattle.words.specs.Needs.{CanStep}
-use Rattle.words.proofs.SteppedLaws.{stepped-records}
-use Rattle.words.proofs.PlacedLaws.{opened-records, placed-records, taken-records, removed-few}
+use Rattle.words.proofs.WordsSteppedLaws.{stepped-records}
+use Rattle.words.proofs.WordsPlacedLaws.{opened-records, placed-records, taken-records, removed-few}
 use Rattle.ledger.specs.Answers.{refusalValue, valueOf, countsOf}
 use Rattle.ledger.specs.Refusals.{Check, unless, firstToFail, badStepTime, clockChecks, timeOf, heldChecks}
 use Rattle.ledger.specs.Machine.{summed}
@@ -40,7 +40,8 @@ use Rattle.ledger.specs.declared.Verdict.the-variants.{Passed, Failed}
 use Rattle.ledger.proofs.RefusalsLaws.{first-passed}
 use Rattle.asking.specs.Asking.{choiceOf, marksIn, listedOf, phasesNow, idsNeeded, cellsCounted, usefulCounted, roundsCounted, askSettled}
 use Rattle.asking.proofs.AskingLaws.{few-rounds}
-use Rattle.engine.specs.Index.{openChecks, checksOf, checksOfChange, settled, openOut, clockOut, changed, changeOut, askOut, callOut}
+use Rattle.engine.specs.Index.{settled, openOut, clockOut, changed, changeOut, askOut, callOut}
+use Rattle.engine.specs.Checks.{openChecks, checksOf, checksOfChange}
 use Rattle.engine.proofs.ChecksLaws.{sound-store, sound-lent, can-step, change-can-step}
 
 -- the most that any number of an answer is

@@ -13,7 +13,7 @@ use Rattle.ledger.specs.declared.Answer.{Answer}
 use Rattle.ledger.specs.declared.Answer.the-variants.{Accepted}
 use Rattle.ledger.specs.declared.Change.{Change}
 use Rattle.ledger.specs.declared.Verdict.the-variants.{Passed}
-use Rattle.engine.specs.Index.{checksOfChange}
+use Rattle.engine.specs.Checks.{checksOfChange}
 
 -- sound words and a change that passed its checks
 pub record CanMake (w : Words) (c : Change) : Type 0 where

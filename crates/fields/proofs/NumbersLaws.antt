@@ -20,7 +20,7 @@ use Rattle.fields.specs.Fields.{fieldOf, isWritable, greatest}
 use Rattle.fields.specs.Numbers.{fields, areWritable, nth}
 use Rattle.fields.specs.Put.{put}
 use Rattle.fields.proofs.WritingLaws.{in-range, length-field}
-use Rattle.fields.proofs.FieldLaws.{part}
+use Rattle.fields.proofs.FieldsLaws.{part}
 use Rattle.fields.proofs.PutLaws.{put-put, put-none}
 
 -- ---- numbers in range

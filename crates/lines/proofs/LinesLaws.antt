@@ -10,12 +10,12 @@ use lib.ListN.{length, getD, take, drop, length-append, set}
 use lib.Seq.{drop-drop, take-add, take-all, take-suc}
 use Rattle.ints.proofs.Truth.{and-left, and-right}
 use Rattle.fields.specs.Numbers.{fields, areWritable, nth}
-use Rattle.fields.proofs.NumberLaws.{writable-at, length-fields, fields-append, part-of-fields}
+use Rattle.fields.proofs.NumbersLaws.{writable-at, length-fields, fields-append, part-of-fields}
 use Rattle.lines.specs.Lines.{lineOf, lineLength, Written}
 use Rattle.fields.specs.Reading.{number}
 use Rattle.lines.specs.Reading.{nthField, numbersIn, areNumbers}
 use Rattle.fields.specs.Put.{put}
-use Rattle.fields.proofs.FieldLaws.{part, written-field, read-field-is}
+use Rattle.fields.proofs.FieldsLaws.{part, written-field, read-field-is}
 use Rattle.fields.proofs.PutLaws.{put-put, put-none, put-front, put-last}
 
 -- ---- a written line

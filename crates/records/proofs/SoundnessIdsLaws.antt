@@ -23,8 +23,8 @@ use Rattle.records.specs.Records.{recordWords, recordFrom, readRecords}
 use Rattle.records.specs.Order.{hasId}
 use Rattle.records.specs.Soundness.{idsDistinct, isRanged, allRanged}
 use Rattle.records.specs.declared.Record.{Record}
-use Rattle.records.proofs.RangeLaws.{id-from}
-use Rattle.records.proofs.TurnLaws.{left, left-at-first, left-at, none-left, ranged-here}
+use Rattle.records.proofs.SoundnessRangeLaws.{id-from}
+use Rattle.records.proofs.RecordsTurnLaws.{left, left-at-first, left-at, none-left, ranged-here}
 
 unfoldable pub noneMarked : List ℕ → List Record → Bool
 noneMarked marks [] = true

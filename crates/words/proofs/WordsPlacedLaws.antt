@@ -26,8 +26,8 @@ use Rattle.records.specs.Words.{Words, words, timeIn, recordsIn, areSound}
 use Rattle.records.specs.declared.Record.{Record}
 use Rattle.records.proofs.RecordsLaws.{now-of-store, records-of-store, store-of}
 use Rattle.records.proofs.SoundnessLaws.{parts-sound}
-use Rattle.records.proofs.RangeLaws.{parts-ranged}
-use Rattle.records.proofs.KeyLaws.{key-in-below}
+use Rattle.records.proofs.SoundnessRangeLaws.{parts-ranged}
+use Rattle.records.proofs.OrderKeysLaws.{key-in-below}
 use Rattle.store.specs.Changes.{inserted, removed, placedIn}
 use Rattle.store.proofs.InsertedLaws.{inserted-length, inserted-sorted, inserted-every}
 use Rattle.store.proofs.RemovedLaws.{removed-sorted, removed-every, removed-length}
