@@ -12,7 +12,7 @@ use Rattle.records.specs.Records.{storeWords}
 use Rattle.records.specs.Order.{hasId}
 use Rattle.records.specs.Words.{Words, timeIn, recordsIn, areSound}
 use Rattle.records.specs.declared.Record.{Record}
-use Rattle.store.specs.Changes.{steppedRecords}
+use Rattle.store.specs.Stepping.{steppedRecords}
 use Rattle.words.specs.Words.{opened, stepped, placed, takenOut}
 use Rattle.ledger.specs.Refusals.{Check, check, firstToFail, badTime, clockChecks, timeOf, idOf, changeChecks, askChecks}
 use Rattle.ledger.specs.declared.Answer.{Answer}
