@@ -22,8 +22,8 @@ use Rattle.records.specs.Soundness.{IsStore}
 use Rattle.records.specs.Words.{Words, timeIn, recordsIn, areSound}
 use Rattle.records.specs.declared.Record.{Record}
 use Rattle.records.proofs.SoundnessLaws as Sound
-use Rattle.store.specs.Changes.{steppedRecords}
-use Rattle.store.proofs.SteppedLaws.{has-stepped, stepped-length}
+use Rattle.store.specs.Stepping.{steppedRecords}
+use Rattle.store.proofs.SteppingLaws.{has-stepped, stepped-length}
 use Rattle.words.specs.Words.{stepped}
 use Rattle.words.specs.Needs.{RightLengths, CanStep, CanPlace, CanReplace}
 use Rattle.words.proofs.WordsSteppedLaws.{stepped-records, stepped-can-change}

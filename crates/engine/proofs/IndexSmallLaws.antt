@@ -17,9 +17,9 @@ use Rattle.methods.specs.Slots.{rowsOfSlot}
 use Rattle.records.specs.Words.{Words, timeIn, recordsIn, areSound}
 use Rattle.reading.specs.Reading.{cellsIn, usefulIn}
 use Rattle.reading.proofs.ListedLaws.{few-listed, cells-few, few-useful}
-use Rattle.store.specs.Changes.{placedIn}
-use Rattle.store.proofs.SteppedLaws.{stepped-length}
-use Rattle.store.proofs.InsertedLaws.{inserted-length}
+use Rattle.store.specs.Stepping.{placedIn}
+use Rattle.store.proofs.SteppingLaws.{stepped-length}
+use Rattle.store.proofs.InsertingLaws.{inserted-length}
 use Rattle.words.specs.Words.{stepped, takenOut}
 use Rattle.words.specs.Needs.{CanStep}
 use Rattle.words.proofs.WordsSteppedLaws.{stepped-records}

@@ -227,7 +227,7 @@ pub fn change_verdict(store: &[i32], c: Change) -> Verdict
     if bad_numbers(c) {
         return Verdict::Failed(Refusal::BadNumber);
     }
-    let is_held = store::changes::has_id(store, c.id());
+    let is_held = store::finding::has_id(store, c.id());
     verdict_by_held(c, is_held, records::held_of(store))
 }
 

@@ -14,7 +14,6 @@ use Rattle.ints.specs.Lists.{passing}
 use Rattle.ints.specs.Whole.{up}
 use Rattle.ints.proofs.Truth.{same-truth}
 use Rattle.ints.proofs.Lists.{map-has, map-in}
-use Rattle.grid.specs.Units.{cells}
 use Rattle.grid.specs.Curve.{curveNumber}
 use Rattle.grid.specs.Reports.{isListed}
 use Rattle.grid.specs.declared.Cell.{Cell}
@@ -28,7 +27,7 @@ use Rattle.methods.specs.Slots.{rowsOfSlot}
 use Rattle.methods.proofs.Methods.{choice-same}
 use Rattle.records.specs.Words.{Words, timeIn}
 use Rattle.records.specs.Order.{precedes}
-use Rattle.store.specs.Changes.{inserted}
+use Rattle.store.specs.Inserting.{inserted}
 use Rattle.records.specs.declared.Record.{Record}
 use Rattle.records.proofs.OrderKeysLaws.{live-phase-of-key}
 use Rattle.records.proofs.SoundnessLaws.{Sound, sound-parts}

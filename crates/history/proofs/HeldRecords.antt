@@ -16,13 +16,15 @@ use Rattle.ints.proofs.Same.{same-is}
 use Rattle.rows.specs.Phases.{phaseOf, isLive}
 use Rattle.records.specs.Order.{isSorted, hasId}
 use Rattle.records.specs.Soundness.{isSoundRecord, allSound, idsDistinct}
-use Rattle.store.specs.Changes.{inserted, insertedAll, removed, placedIn, stays, moves, steppedRecords}
+use Rattle.store.specs.Inserting.{inserted, insertedAll}
+use Rattle.store.specs.Removing.{removed}
+use Rattle.store.specs.Stepping.{placedIn, stays, moves, steppedRecords}
 use Rattle.records.specs.declared.Record.{Record}
 use Rattle.records.proofs.OrderKeysLaws.{live-phase-of-key, placed-right}
 use Rattle.records.proofs.SoundnessLaws.{record-sound}
-use Rattle.store.proofs.InsertedLaws.{inserted-from, inserted-length, has-inserted, inserted-sorted, inserted-every, inserted-distinct}
-use Rattle.store.proofs.RemovedLaws.{removed-same, removed-other}
-use Rattle.store.proofs.SteppedLaws.{stepped-kept, stepped-replaced}
+use Rattle.store.proofs.InsertingLaws.{inserted-from, inserted-length, has-inserted, inserted-sorted, inserted-every, inserted-distinct}
+use Rattle.store.proofs.RemovingLaws.{removed-same, removed-other}
+use Rattle.store.proofs.SteppingLaws.{stepped-kept, stepped-replaced}
 use Rattle.ledger.specs.Machine.{Held, Placement, isHeld, without, steppedHeld}
 use Rattle.history.proofs.Relation.{recordOf, recordsOfHeld, heldOnce, GoodHeld}
 

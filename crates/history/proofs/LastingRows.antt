@@ -24,13 +24,15 @@ use Rattle.rows.proofs.RowLaws.{Within, within-refl, within-trans, within-joine
 use Rattle.rows.proofs.TableLaws.{row-written, row-other, length-with-row, length-newly-live-empty, earlier-live-kept}
 use Rattle.records.specs.Words.{Words, timeIn, recordsIn}
 use Rattle.records.specs.Order.{slotOfKey, numberOfKey}
-use Rattle.store.specs.Changes.{inserted, removed, placedIn, moves, replaced, steppedRecords, widenedBy, widenedByAll}
-use Rattle.store.proofs.WidenedLaws.{ownRow}
+use Rattle.store.specs.Inserting.{inserted}
+use Rattle.store.specs.Removing.{removed}
+use Rattle.store.specs.Widening.{widenedBy, widenedByAll}
+use Rattle.store.specs.Stepping.{placedIn, moves, replaced, steppedRecords}
+use Rattle.store.proofs.WideningLaws.{ownRow, with-speeds-length}
 use Rattle.words.specs.Words as Index
 use Rattle.records.specs.declared.Record.{Record}
 use Rattle.records.proofs.RecordsLaws.{now-of-store}
 use Rattle.records.proofs.SoundnessRangeLaws.{number-of-key-below}
-use Rattle.store.proofs.WidenedLaws.{with-speeds-length}
 use Rattle.ledger.specs.Answers.{isAccepted}
 use Rattle.ledger.specs.Refusals.{Check, check, firstToFail, badStepTime, timeOf}
 use Rattle.ledger.specs.Machine.{Ledger, Placement, livePlacements, newPlacements, stepped, withReport, withoutId, changed, speedsPlaced, rowsIn}

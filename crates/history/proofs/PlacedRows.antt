@@ -32,13 +32,14 @@ use Rattle.rows.proofs.PhasesLaws.{live-range, range-live, same-slot, slot-on, 
 use Rattle.rows.proofs.TableLaws.{length-newly-live-empty, newly-live-emptied, earlier-live-kept}
 use Rattle.rows.proofs.TableSlotLaws.{phase-in-slot, slot-cases, other-slot-kept}
 use Rattle.records.specs.Order.{keyIn, slotOfKey, numberOfKey}
-use Rattle.store.specs.Changes.{placedIn, stays, moves, replaced, widenedByAll}
+use Rattle.store.specs.Widening.{widenedByAll}
+use Rattle.store.specs.Stepping.{placedIn, stays, moves, replaced}
 use Rattle.records.specs.declared.Record.{Record}
 use Rattle.records.proofs.OrderKeysLaws.{slot-of-key-in, number-of-key-in}
 use Rattle.records.proofs.SoundnessRangeLaws.{drift-in-range}
-use Rattle.store.proofs.SteppedLaws.{replaced-from}
-use Rattle.store.proofs.WidenedLaws.{liesAt, speedsAt, Placeable, newBounds, withOne, bounds-inserted, with-speeds-length, row-with-speeds, none-elsewhere}
-use Rattle.store.proofs.WidenedLaws as Records
+use Rattle.store.proofs.SteppingLaws.{replaced-from}
+use Rattle.store.proofs.WideningLaws.{liesAt, speedsAt, Placeable, newBounds, withOne, bounds-inserted, with-speeds-length, row-with-speeds, none-elsewhere}
+use Rattle.store.proofs.WideningLaws as Records
 use Rattle.ledger.specs.Machine as Ledger
 use Rattle.ledger.specs.Machine.{Ledger, Held, Placement, placeIn, placement, newPlacements, livePlacements, stepped, withReport, speedsPlaced, rowsIn}
 use Rattle.ledger.proofs.MachineLaws.{isThere, ownRow, speeds-append, speeds-live, no-speeds, speed-from}

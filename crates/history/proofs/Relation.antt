@@ -19,7 +19,8 @@ use Rattle.rows.specs.Table.{tableWords, rowAt}
 use Rattle.rows.proofs.RowLaws.{DriftInRange}
 use Rattle.records.specs.Words.{Words, timeIn, recordsIn}
 use Rattle.words.specs.Needs.{CanChange}
-use Rattle.store.specs.Changes.{inserted, placedIn}
+use Rattle.store.specs.Inserting.{inserted}
+use Rattle.store.specs.Stepping.{placedIn}
 use Rattle.records.specs.declared.Record.{Record}
 use Rattle.ledger.specs.Machine.{Ledger, Held, Placement, placement, isHeld, rowsIn}
 

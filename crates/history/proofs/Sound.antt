@@ -21,7 +21,7 @@ use Rattle.records.specs.Order.{keyIn, slotOfKey, numberOfKey}
 use Rattle.records.specs.Soundness.{inOwnRow, allSound, idsDistinct, speedsInRows}
 use Rattle.records.specs.Words.{Words, recordsIn, areSound}
 use Rattle.records.proofs.OrderKeysLaws.{slot-of-key-in, number-of-key-in}
-use Rattle.store.proofs.InsertedLaws.{inserted-every}
+use Rattle.store.proofs.InsertingLaws.{inserted-every}
 use Rattle.words.proofs.WordsPlacedLaws.{sound-words}
 use Rattle.ledger.specs.Machine.{Ledger, Held, placeIn, speedsPlaced, rowsIn}
 use Rattle.ledger.proofs.MachineLaws.{speed-placed}

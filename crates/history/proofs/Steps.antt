@@ -21,7 +21,10 @@ use Rattle.rows.specs.Phases.{phaseOf}
 use Rattle.records.specs.Order.{hasId}
 use Rattle.records.specs.Words.{Words, timeIn, recordsIn}
 use Rattle.records.specs.declared.Record.{Record}
-use Rattle.store.specs.Changes.{inserted, removed, placedIn, steppedRecords, widenedByAll}
+use Rattle.store.specs.Inserting.{inserted}
+use Rattle.store.specs.Removing.{removed}
+use Rattle.store.specs.Widening.{widenedByAll}
+use Rattle.store.specs.Stepping.{placedIn, steppedRecords}
 use Rattle.words.specs.Words as Index
 use Rattle.words.specs.Needs.{CanPlace}
 use Rattle.words.proofs.WordsSteppedLaws.{stepped-time, stepped-records, stepped-can-change}

@@ -1,7 +1,8 @@
-pub mod ChangesLaws
-pub mod InsertedLaws
-pub mod RemovedLaws
-pub mod SteppedLaws
+pub mod FindingLaws
+pub mod InsertingLaws
+pub mod RemovingLaws
 pub mod SortingLaws
-pub mod StepWordsLaws
-pub mod WidenedLaws
+pub mod SteppingLaws
+pub mod SteppingWordsLaws
+pub mod WideningLaws
+pub mod WritingLaws

@@ -7,7 +7,6 @@ use mathlib.Core.List.{List, _++_}
 use Prim.Native.Nat.{ℕ, _+_, _*_, _≤_, _<_}
 use lib.IntN.{ℤ}
 use lib.ListN.{length, take, drop}
-use Rattle.ints.specs.Whole.{eqZ}
 use Rattle.ints.specs.Lists.{passing}
 use Rattle.grid.specs.Units.{capacity}
 use Rattle.grid.specs.Curve.{IsCurve}
@@ -16,32 +15,20 @@ use Rattle.grid.specs.declared.Report.{Report}
 use Rattle.rows.specs.Phases.{phaseOf, lastPhase}
 use Rattle.rows.specs.Table.{tableWords}
 use Rattle.records.specs.Records.{recordWords, heldOf, readRecords, recordsOf, wordsOfAll, floatWords}
-use Rattle.records.specs.Order.{precedes}
 use Rattle.records.specs.Soundness.{isRanged, allRanged, IsStore}
-use Rattle.store.specs.Changes.{replaced}
-use Rattle.store.specs.declared.changes.Step.{Step}
+use Rattle.store.specs.Stepping.{replaced}
+use Rattle.store.specs.declared.stepping.Step.{Step}
 use Rattle.records.specs.declared.Record.{Record}
-use Rattle.records.specs.Places.{firstOf, HasWords}
+use Rattle.records.specs.Places.{HasWords}
 
--- ---- how many records stand before another
-
--- before the place of r
-abbrev pub placeOf : Record → List Record → ℕ
-placeOf r = firstOf (precedes r)
-
--- before the record of an id
-abbrev pub hasThat : ℤ → Record → Bool
-hasThat id a = eqZ (a .report .id) id
-
-abbrev pub indexOf : ℤ → List Record → ℕ
-indexOf id = firstOf (hasThat id)
-
--- ---- records put in, taken out and placed, and the rows that they widen
+-- ---- writing.rt: the count of floats held
 
 -- the word that counts the floats held, and a count for it
 pub record HeldAsked (s : List ℤ) (n : ℕ) : Type 0 where
   pub count-word : 1 < length s
   pub few : n ≤ capacity
+
+-- ---- inserting.rt: a record put in
 
 -- a store with room for one more record; the public function also asks that the store is sorted, and store and record in range
 pub record PutAsked (s : List ℤ) : Type 0 where
@@ -53,20 +40,14 @@ pub record InsertAsked (s : List ℤ) (r : Record) : Type 0 where
   pub ranged : isRanged r ≡ true
   pub room : length (recordsOf s) < capacity
 
+-- ---- removing.rt: a record taken out
+
 -- a record of a store, by how many stand before it
 pub record RemoveAsked (s : List ℤ) (i : ℕ) : Type 0 where
   pub store : HasWords s
   pub within : i < heldOf s
 
--- a phase and a report to place in it; the function that is lent the curve numbers asks that they are those of the curve
-pub record ReportAsked (p : ℕ) (r : Report) : Type 0 where
-  pub phase : p ≤ lastPhase
-  pub in-range : inRange r ≡ true
-  pub is-time : isTime (r .t) ≡ true
-
-pub record PlaceByAsked (numbers : List ℕ) (p : ℕ) (r : Report) : Type 0 where
-  pub curve : IsCurve numbers
-  pub report : ReportAsked p r
+-- ---- widening.rt: the rows of some records widened
 
 -- a table, and m records in range, each of whose rows is widened
 pub record WidenAllAsked (table dead : List ℤ) (m : ℕ) : Type 0 where
@@ -74,7 +55,7 @@ pub record WidenAllAsked (table dead : List ℤ) (m : ℕ) : Type 0 where
   pub inside : recordWords * m ≤ length dead
   pub ranged : allRanged (readRecords m dead) ≡ true
 
--- ---- sorting and merging
+-- ---- sorting.rt: sorting and merging
 
 -- what is left of n records of one list of words, i of them gone, and of m of another, j gone
 pub record NextAsked (a : List ℤ) (i n : ℕ) (b : List ℤ) (j m : ℕ) : Type 0 where
@@ -120,7 +101,17 @@ pub record MergeInAsked (s b : List ℤ) (m : ℕ) (space : List ℤ) : Type 0 w
   pub put-all : PutAllAsked s b m
   pub room : length space ≡ floatWords
 
--- ---- the clock step, from now to a time
+-- ---- stepping.rt: a report placed, and the clock step from now to a time
+
+-- a phase and a report to place in it; the function that is lent the curve numbers asks that they are those of the curve
+pub record ReportAsked (p : ℕ) (r : Report) : Type 0 where
+  pub phase : p ≤ lastPhase
+  pub in-range : inRange r ≡ true
+  pub is-time : isTime (r .t) ≡ true
+
+pub record PlaceByAsked (numbers : List ℕ) (p : ℕ) (r : Report) : Type 0 where
+  pub curve : IsCurve numbers
+  pub report : ReportAsked p r
 
 -- two times to step between
 pub record AreTimes (now time : ℤ) : Type 0 where

@@ -1,10 +1,11 @@
-// Words of a store written: a record, and the count of floats held.
+// Words of a store written: a record, the count of floats held, and the time.
 ghost use mathlib.Core.Path.{_≡_};
 ghost use mathlib.Core.List.{_++_};
 ghost use Prim.Native.Nat.{_≤_, _+_};
 ghost use lib.IntN.{pos};
 ghost use lib.ListN.{length, take, drop, set};
-ghost use Rattle.records.specs.Records.{recordWords, wordsOf};
+ghost use Rattle.records.specs.Records.{recordWords, recordsOf, wordsOf, storeOf};
+ghost use Rattle.records.specs.Soundness.{IsStore};
 ghost use Rattle.store.specs.Needs.{HeldAsked};
 use records::Record;
 
@@ -37,4 +38,12 @@ pub fn set_held(store: &mut [i32], n: usize)
 {
     let w = n as i32;
     store[1] = w;
+}
+
+// Sets the time, in record 0.
+pub fn set_now(store: &mut [i32], t: i32)
+    requires { ⌜ IsStore (now store) ⌝ }
+    ensures { λ u. ⌜ now (store .exit) ≡ storeOf t (recordsOf (now (store .entry))) ⌝ }
+{
+    store[0] = t;
 }

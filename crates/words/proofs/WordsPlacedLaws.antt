@@ -28,9 +28,11 @@ use Rattle.records.proofs.RecordsLaws.{now-of-store, records-of-store, store-of
 use Rattle.records.proofs.SoundnessLaws.{parts-sound}
 use Rattle.records.proofs.SoundnessRangeLaws.{parts-ranged}
 use Rattle.records.proofs.OrderKeysLaws.{key-in-below}
-use Rattle.store.specs.Changes.{inserted, removed, placedIn}
-use Rattle.store.proofs.InsertedLaws.{inserted-length, inserted-sorted, inserted-every}
-use Rattle.store.proofs.RemovedLaws.{removed-sorted, removed-every, removed-length}
+use Rattle.store.specs.Inserting.{inserted}
+use Rattle.store.specs.Removing.{removed}
+use Rattle.store.specs.Stepping.{placedIn}
+use Rattle.store.proofs.InsertingLaws.{inserted-length, inserted-sorted, inserted-every}
+use Rattle.store.proofs.RemovingLaws.{removed-sorted, removed-every, removed-length}
 use Rattle.words.specs.Words.{opened, placed, takenOut}
 use Rattle.words.specs.Needs.{RightLengths, CanChange, CanPlace, CanReplace}
 

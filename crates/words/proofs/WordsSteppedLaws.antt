@@ -18,13 +18,15 @@ use Rattle.rows.proofs.PhasesLaws.{live-range, listed-live, phases-grow}
 use Rattle.records.specs.Records.{recordsOf, storeOf}
 use Rattle.records.specs.Order.{isSorted, phaseOfKey}
 use Rattle.records.specs.Soundness.{allRanged, IsStore}
-use Rattle.store.specs.Changes.{placedIn, stays, moves, replaced, insertedAll, steppedRecords, widenedByAll}
+use Rattle.store.specs.Inserting.{insertedAll}
+use Rattle.store.specs.Widening.{widenedByAll}
+use Rattle.store.specs.Stepping.{placedIn, stays, moves, replaced, steppedRecords}
 use Rattle.store.specs.Needs.{IsStep}
-use Rattle.store.specs.declared.changes.Step.{Step}
+use Rattle.store.specs.declared.stepping.Step.{Step}
 use Rattle.records.specs.declared.Record.{Record}
 use Rattle.records.proofs.RecordsLaws.{now-of-store, records-of-store, store-of}
-use Rattle.store.proofs.SteppedLaws.{stepped-few, stepped-ranged, stepped-sorted}
-use Rattle.store.proofs.WidenedLaws.{with-speeds-length}
+use Rattle.store.proofs.SteppingLaws.{stepped-few, stepped-ranged, stepped-sorted}
+use Rattle.store.proofs.WideningLaws.{with-speeds-length}
 use Rattle.records.proofs.SoundnessLaws as Sound
 use Rattle.records.proofs.OrderKeysLaws.{right-placed}
 use Rattle.records.specs.Words.{Words, words, timeIn, recordsIn}

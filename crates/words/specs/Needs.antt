@@ -15,9 +15,9 @@ use Rattle.records.specs.Records.{storeWords, nowOf, recordsOf, storeOf}
 use Rattle.records.specs.Order.{hasId}
 use Rattle.records.specs.Soundness.{IsStore}
 use Rattle.records.specs.Words.{Words, timeIn, recordsIn, areSound}
-use Rattle.store.specs.Changes.{steppedRecords}
+use Rattle.store.specs.Stepping.{steppedRecords}
 use Rattle.store.specs.Needs.{IsStep}
-use Rattle.store.specs.declared.changes.Step.{Step}
+use Rattle.store.specs.declared.stepping.Step.{Step}
 use Rattle.words.specs.Words.{tableStepped}
 
 -- the lengths of document 01

@@ -9,7 +9,10 @@ use Rattle.rows.specs.Table.{withSlotEmpty, withNewlyLiveEmpty}
 use Rattle.records.specs.Records.{storeOf}
 use Rattle.records.specs.Words.{Words, timeIn, recordsIn}
 use Rattle.records.specs.declared.Record.{Record}
-use Rattle.store.specs.Changes.{inserted, removed, placedIn, moves, replaced, steppedRecords, widenedBy, widenedByAll}
+use Rattle.store.specs.Inserting.{inserted}
+use Rattle.store.specs.Removing.{removed}
+use Rattle.store.specs.Widening.{widenedBy, widenedByAll}
+use Rattle.store.specs.Stepping.{placedIn, moves, replaced, steppedRecords}
 
 -- that time, no float held, every row empty
 unfoldable pub opened : ℤ → Words → Words

@@ -6,7 +6,7 @@ ghost use Rattle.words.specs.Words.{opened, stepped, placed, takenOut};
 ghost use Rattle.words.specs.Needs.{RightLengths, CanStep, CanMove, Moved, CanChange, CanPlace, CanReplace};
 use grid::Report;
 use records::order::phase_at;
-use store::changes::Step;
+use store::stepping::Step;
 
 // That time, no float held, every row empty, whatever the words were.
 pub fn open(store: &mut [i32], table: &mut [i16], t: i32)
@@ -23,7 +23,7 @@ fn step_phase(store: &mut [i32], table: &mut [i16], s: Step)
     ensures { λ u. ⌜ Moved (now (store .entry)) (now (table .entry)) s (now (store .exit)) (now (table .exit)) ⌝ }
 {
     rows::empty_newly_live(table, s.from, s.to);
-    store::changes::step_records(store, table, s);
+    store::stepping::step_records(store, table, s);
 }
 
 // The clock step to time t. In the same phase only the time changes.
@@ -33,11 +33,11 @@ pub fn step(store: &mut [i32], table: &mut [i16], t: i32)
 {
     let s = Step::between(records::now_of(store), t as i64);
     if s.to <= s.from {
-        store::changes::set_now(store, t);
+        store::writing::set_now(store, t);
         return;
     }
     step_phase(store, table, s);
-    store::changes::set_now(store, t);
+    store::writing::set_now(store, t);
 }
 
 // A report placed in the phase of its time: its record put in, its row widened.
@@ -45,9 +45,9 @@ pub fn place(store: &mut [i32], table: &mut [i16], r: Report)
     requires { ⌜ CanPlace (words (now store) (now table)) r ⌝ }
     ensures { λ u. ⌜ words (now (store .exit)) (now (table .exit)) ≡ placed r (words (now (store .entry)) (now (table .entry))) ⌝ }
 {
-    let new = store::changes::place_in(phase_at(r.t), r);
-    store::changes::insert(store, new);
-    store::changes::widen(table, new);
+    let new = store::stepping::place_in(phase_at(r.t), r);
+    store::inserting::insert(store, new);
+    store::widening::widen(table, new);
 }
 
 // The float of an id taken out. Its row stays as it is: a row never narrows while its phase lives.
@@ -55,7 +55,7 @@ pub fn take_out(store: &mut [i32], table: &mut [i16], id: i32)
     requires { ⌜ CanChange (words (now store) (now table)) ⌝ }
     ensures { λ u. ⌜ words (now (store .exit)) (now (table .exit)) ≡ takenOut id (words (now (store .entry)) (now (table .entry))) ⌝ }
 {
-    store::changes::remove(store, id);
+    store::removing::remove(store, id);
 }
 
 // A held float's report placed anew.

@@ -8,7 +8,9 @@ use mathlib.Core.Bool.{true}
 use Rattle.rows.specs.Phases.{phaseOf}
 use Rattle.records.specs.Records.{nowOf, recordsOf, storeOf}
 use Rattle.records.specs.Soundness.{isRanged}
-use Rattle.store.specs.Changes.{inserted, placedIn, widenedBy}
+use Rattle.store.specs.Inserting.{inserted}
+use Rattle.store.specs.Widening.{widenedBy}
+use Rattle.store.specs.Stepping.{placedIn}
 use Rattle.records.specs.declared.Record.{Record}
 use Prim.Native.Nat.{ℕ}
 use Rattle.records.proofs.SoundnessRangeLaws.{last-phase, parts-ranged}

@@ -9,7 +9,7 @@ use lib.IntN.{ℤ}
 use Rattle.grid.specs.Reports.{isTime}
 use Rattle.rows.specs.Phases.{phaseOf}
 use Rattle.store.specs.Needs.{IsStep}
-use Rattle.store.specs.declared.changes.Step.{Step}
+use Rattle.store.specs.declared.stepping.Step.{Step}
 use Rattle.records.specs.Records.{nowOf, recordsOf, storeOf}
 use Rattle.records.specs.Words.{Words, words}
 use Rattle.records.proofs.RecordsLaws.{store-words-of}

@@ -7,7 +7,8 @@ use lib.IntN.{ℤ}
 use Rattle.rows.specs.Phases.{phaseOf}
 use Rattle.rows.specs.Table.{withNewlyLiveEmpty}
 use Rattle.records.specs.Records.{recordsOf}
-use Rattle.store.specs.Changes.{moves, replaced, widenedByAll}
+use Rattle.store.specs.Widening.{widenedByAll}
+use Rattle.store.specs.Stepping.{moves, replaced}
 use Rattle.words.specs.Words.{tableStepped}
 use Rattle.words.proofs.step_phase.Statement.{statement}
 use Rattle.words.proofs.step_phase.Tie as tie

@@ -3,7 +3,7 @@
 use borrow.Author.Needs.{needs}
 use native.Mathlib.Omega.{arith}
 use lib.ListN.{length-set}
-use Rattle.store.proofs.ChangesLaws.{write-words}
+use Rattle.store.proofs.WritingLaws.{write-words}
 use Rattle.store.proofs.writing.write_record.Statement.{statement}
 use Rattle.store.proofs.writing.write_record.Tie as tie
 
