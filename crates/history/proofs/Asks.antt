@@ -14,7 +14,6 @@ use Rattle.ints.specs.Lists.{passing}
 use Rattle.ints.specs.Whole.{up}
 use Rattle.ints.proofs.Truth.{same-truth}
 use Rattle.ints.proofs.Lists.{map-has, map-in}
-use Rattle.grid.specs.Units.{cells}
 use Rattle.grid.specs.Curve.{curveNumber}
 use Rattle.grid.specs.Reports.{isListed}
 use Rattle.grid.specs.declared.Cell.{Cell}
@@ -32,7 +31,7 @@ use Rattle.store.specs.Changes.{inserted}
 use Rattle.records.specs.declared.Record.{Record}
 use Rattle.records.proofs.KeyLaws.{live-phase-of-key}
 use Rattle.records.proofs.SoundnessLaws.{Sound, sound-parts}
-use Rattle.reading.proofs.ListedLaws.{idOf}
+use Rattle.reading.proofs.ReadingLaws.{idOf}
 use Rattle.ledger.specs.Answers.{isAccepted}
 use Rattle.ledger.specs.Refusals.{check, unless, firstToFail, badAskTime, badAsk, askChecks}
 use Rattle.ledger.specs.Machine.{Ledger, Held, rowsIn, choiceAsked, listedHeld, isUseful, usefulCells, putInOrder, idsInOrder, summed, idsListed, cellsRead, usefulRead, roundsTaken}
