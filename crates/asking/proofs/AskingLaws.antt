@@ -28,9 +28,11 @@ use Rattle.records.specs.Soundness.{IsStore}
 use Rattle.records.specs.declared.Record.{Record}
 use Rattle.records.proofs.SoundnessLaws as Sound
 use Rattle.records.proofs.SoundnessRangeLaws.{between-from, last-phase}
-use Rattle.reading.specs.Reading.{ReadingOf, SmallReading, listedIn, cellsIn, usefulIn, withIds, rising}
+use Rattle.reading.specs.Reading.{ReadingOf, SmallReading, listedIn, cellsIn, usefulIn, withIds}
+use Rattle.reading.specs.Ids.{rising}
 use Rattle.reading.specs.declared.Reading.{Reading}
-use Rattle.reading.proofs.ListedLaws.{few-listed, cells-few, few-useful}
+use Rattle.reading.proofs.ReadingLaws.{few-listed, cells-few}
+use Rattle.reading.proofs.ReadingUsefulLaws.{few-useful}
 use Rattle.ledger.specs.Answers.{numberOf, valueOf, countsOf}
 use Rattle.ledger.specs.Machine.{summed}
 use Rattle.ledger.specs.Refusals.{firstToFail}

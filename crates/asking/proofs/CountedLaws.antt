@@ -20,7 +20,8 @@ use Rattle.ledger.specs.declared.Ask.{Ask}
 use Rattle.reading.specs.Reading.{cellsIn, hasKey, usefulIn}
 use Rattle.records.specs.declared.Record.{Record}
 use Rattle.records.proofs.SoundnessLaws.{Sound}
-use Rattle.reading.proofs.ListedLaws.{cells-are, useful-are}
+use Rattle.reading.proofs.ReadingLaws.{cells-are}
+use Rattle.reading.proofs.ReadingUsefulLaws.{useful-are}
 use Rattle.ledger.specs.Machine.{summed}
 use Rattle.ledger.proofs.MachineSummedLaws.{summed-same}
 use Rattle.asking.specs.Asking.{choiceOf, marksIn, listedOf, cellsCounted, usefulCounted}

@@ -15,7 +15,8 @@ use Rattle.methods.specs.Slots.{rowsOfSlot}
 use Rattle.methods.specs.Marks.{marksOf}
 use Rattle.records.specs.Words.{Words, timeIn, recordsIn}
 use Rattle.records.specs.declared.Record.{Record}
-use Rattle.reading.specs.Reading.{listedIn, cellsIn, usefulIn, withIds, rising}
+use Rattle.reading.specs.Reading.{listedIn, cellsIn, usefulIn, withIds}
+use Rattle.reading.specs.Ids.{rising}
 use Rattle.ledger.specs.Machine.{summed}
 use Rattle.ledger.specs.Answers.{numberOf, valueOf, countsOf}
 use Rattle.ledger.specs.declared.Answer.{Answer}

@@ -16,7 +16,8 @@ use Rattle.methods.specs.Aims.{aimIn}
 use Rattle.methods.specs.Slots.{rowsOfSlot}
 use Rattle.records.specs.Words.{Words, timeIn, recordsIn, areSound}
 use Rattle.reading.specs.Reading.{cellsIn, usefulIn}
-use Rattle.reading.proofs.ListedLaws.{few-listed, cells-few, few-useful}
+use Rattle.reading.proofs.ReadingLaws.{few-listed, cells-few}
+use Rattle.reading.proofs.ReadingUsefulLaws.{few-useful}
 use Rattle.store.specs.Stepping.{placedIn}
 use Rattle.store.proofs.SteppingLaws.{stepped-length}
 use Rattle.store.proofs.InsertingLaws.{inserted-length}

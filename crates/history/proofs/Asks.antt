@@ -31,7 +31,7 @@ use Rattle.store.specs.Inserting.{inserted}
 use Rattle.records.specs.declared.Record.{Record}
 use Rattle.records.proofs.OrderKeysLaws.{live-phase-of-key}
 use Rattle.records.proofs.SoundnessLaws.{Sound, sound-parts}
-use Rattle.reading.proofs.ListedLaws.{idOf}
+use Rattle.reading.proofs.ReadingLaws.{idOf}
 use Rattle.ledger.specs.Answers.{isAccepted}
 use Rattle.ledger.specs.Refusals.{check, unless, firstToFail, badAskTime, badAsk, askChecks}
 use Rattle.ledger.specs.Machine.{Ledger, Held, rowsIn, choiceAsked, listedHeld, isUseful, usefulCells, putInOrder, idsInOrder, summed, idsListed, cellsRead, usefulRead, roundsTaken}

@@ -1,2 +1,5 @@
+pub mod Runs
+pub mod Tallies
 pub mod Reading
+pub mod Ids
 pub mod Needs

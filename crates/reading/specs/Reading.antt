@@ -2,15 +2,15 @@
 -- cells the set has, and how many of them hold a listed float. Document 01, "The four ways to choose cells", its last paragraph.
 -- Assumes nothing.
 use mathlib.Core.Path.{_≡_}
-use mathlib.Core.Bool.{Bool, _&&_, not, cond}
+use mathlib.Core.Bool.{Bool, cond, not, _&&_}
 use mathlib.Core.List.{List, [], _∷_}
 use Prim.Native.Nat.{ℕ, zero, suc, _+_, _≤_, _<_}
 use lib.Dec.{eqb}
 use lib.IntN.{ℤ}
 use lib.ListN.{length, getD, set}
-use Rattle.ints.specs.Whole.{up, eqZ, between}
+use Rattle.ints.specs.Whole.{up, eqZ}
 use Rattle.ints.specs.Lists.{passing, some}
-use Rattle.grid.specs.Units.{cells, lastId, idMarks}
+use Rattle.grid.specs.Units.{cells, idMarks}
 use Rattle.grid.specs.Small.{SmallQuery}
 use Rattle.grid.specs.declared.Query.{Query}
 use Rattle.grid.specs.declared.Report.{Report}
@@ -22,10 +22,6 @@ use Rattle.reading.specs.declared.Reading.{Reading}
 -- a set of cells, by curve number: a mark that is not 0
 abbrev pub inSet : List ℕ → ℕ → Bool
 inSet marks number = not (eqb (getD marks number 0) 0)
-
--- the records between two keys, both included
-abbrev pub betweenKeys : ℤ → ℤ → List Record → List Record
-betweenKeys low high = passing (λ r. between low high (r .key))
 
 -- whether reading a set of cells of a slot lists a record
 abbrev pub isRead : List ℕ → ℕ → (Report → Bool) → Record → Bool
@@ -80,11 +76,3 @@ pub record ReadTogether (a b r : Reading) : Type 0 where
   pub listed-sum : r .listed ≡ a .listed + b .listed
   pub cells-sum : r .cells ≡ a .cells + b .cells
   pub useful-sum : r .useful ≡ a .useful + b .useful
-
--- the marked ids from `id` on, n of them, by rising number
-unfoldable pub risingFrom : List ℕ → ℕ → ℕ → List ℕ
-risingFrom found id zero = []
-risingFrom found id (suc n) = cond (inSet found id) (id ∷ risingFrom found (suc id) n) (risingFrom found (suc id) n)
-
-abbrev pub rising : List ℕ → List ℕ
-rising found = risingFrom found 1 lastId
