@@ -1,12 +1,11 @@
 -- The P cases of document 01 so far: those of the grid, and P11, which speaks of the methods.
 -- Assumes nothing.
-use mathlib.Core.Bool.{cond, _&&_}
+use mathlib.Core.Bool.{cond}
 use mathlib.Core.List.{List, [], _∷_, _++_}
 use Prim.Native.Nat.{ℕ}
-use lib.Dec.{eqb}
 use lib.IntN.{ℤ, pos}
 use lib.ListN.{length}
-use Rattle.grid.specs.Places.{cellOf}
+use Rattle.grid.specs.Places.{sameCell, cellOf}
 use Rattle.grid.specs.Examples.{Example}
 use Rattle.grid.specs.Examples as Grid
 use Rattle.rows.specs.Row.{emptyRow, widened}
@@ -16,9 +15,7 @@ use Rattle.methods.specs.declared.Slice.{Slice}
 
 -- rows with one float more, placed at (x, y)
 abbrev pub withFloat : Rows → ℤ → ℤ → ℤ → ℤ → Rows
-withFloat rows x y vx vy c =
-    let own = cellOf x y in
-    cond (eqb (own .column) (c .column) && eqb (own .row) (c .row)) (widened (rows c) (record { vx = vx; vy = vy })) (rows c)
+withFloat rows x y vx vy c = cond (sameCell (cellOf x y) c) (widened (rows c) (record { vx = vx; vy = vy })) (rows c)
 
 -- the floats of P11, all reported at 0, the reference time of phase 0
 unfoldable pub rowsP11 : Rows

@@ -1,7 +1,7 @@
 // Phases, their reference times and their slots: document 01, "Phases and speed rows". Times are seconds.
 ghost use mathlib.Core.Path.{_≡_};
-ghost use Prim.Native.Nat.{_<_, _+_};
-ghost use Rattle.rows.specs.Phases.{phaseOf, referenceTime, isLive, slotOf};
+ghost use Prim.Native.Nat.{_≤_};
+ghost use Rattle.rows.specs.Phases.{phaseOf, lastPhase, referenceTime, isLive, slotOf};
 use crate::PHASE_SECONDS;
 use crate::SLOTS;
 
@@ -15,16 +15,16 @@ pub fn phase_of(t: i64) -> usize
     (t as usize) / PHASE_SECONDS
 }
 
-// The reference time of a phase. No time is past 2 ^ 40, so no phase is past 2 ^ 30.
+// The reference time of a phase.
 pub fn reference_time(p: usize) -> i64
-    requires { ⌜ p < 1073741824 ⌝ }
+    requires { ⌜ p ≤ lastPhase ⌝ }
     ensures { λ r. ⌜ r ≡ referenceTime p ⌝ }
 {
     (PHASE_SECONDS * p) as i64
 }
 
 pub fn is_live(c: usize, p: usize) -> bool
-    requires { ⌜ p < 1073741824 ⌝ }
+    requires { ⌜ p ≤ lastPhase ⌝ }
     ensures { λ r. ⌜ r ≡ isLive c p ⌝ }
 {
     p <= c && c <= p + 2

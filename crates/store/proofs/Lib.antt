@@ -1,6 +1,7 @@
 pub mod FindingLaws
 pub mod InsertingLaws
 pub mod RemovingLaws
+pub mod SortingListsLaws
 pub mod SortingLaws
 pub mod SteppingLaws
 pub mod SteppingWordsLaws

@@ -29,7 +29,7 @@ use Rattle.records.proofs.SoundnessRangeLaws.{last-phase}
 use Rattle.records.proofs.PlacesLaws.{record-at, store-room, read-later}
 use Rattle.store.proofs.FindingLaws.{left-at}
 use Rattle.store.proofs.WritingLaws.{words-append}
-use Rattle.store.proofs.SortingLaws.{no-records}
+use Rattle.store.proofs.SortingListsLaws.{no-records}
 use Rattle.store.proofs.SteppingLaws.{placed-ranged, halves-few}
 
 -- ---- the phases of a step are those of a time

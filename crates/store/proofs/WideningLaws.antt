@@ -30,7 +30,7 @@ use Rattle.records.proofs.PlacesLaws.{rest-at}
 use Rattle.store.specs.Inserting.{inserted}
 use Rattle.store.specs.Widening.{widenedBy, widenedByAll}
 use Rattle.store.specs.Stepping.{placedIn, replaced}
-use Rattle.store.proofs.SortingLaws.{no-records}
+use Rattle.store.proofs.SortingListsLaws.{no-records}
 
 -- the row of a record's speeds alone
 abbrev pub ownRow : Record → Row
