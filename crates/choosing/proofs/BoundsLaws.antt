@@ -94,7 +94,6 @@ module _ (table : List ℤ) (slot : ℕ) where
 
   record InSlot (number n : ℕ) (r : Row) : Type 0 where
     k : ℕ
-    from : number ≤ k
     to : k < number + n
     is : r ≡ rowAt table slot k
 
@@ -103,8 +102,8 @@ module _ (table : List ℤ) (slot : ℕ) where
   in-slot zero number r m = absurd (List·Memᴰ·not-nil m)
   in-slot (suc n) number r m =
       ⊎-elim
-      (λ (e : r ≡ rowAt table slot number). record { k = number; from = omega arith; to = omega arith; is = e })
-      (λ p. let s = in-slot n (suc number) r p in record { k = s .k; from = omega (arith, s .from); to = omega (arith, s .to); is = s .is })
+      (λ (e : r ≡ rowAt table slot number). record { k = number; to = omega arith; is = e })
+      (λ p. let s = in-slot n (suc number) r p in record { k = s .k; to = omega (arith, s .to); is = s .is })
       (List·Memᴰ·cases-cons m)
 
   pub phase-bounds-are : boundsOf (slotRows table slot 0 cells) ≡ phaseBounds (rowsOfSlot table slot)

@@ -10,10 +10,10 @@ use native.Mathlib.Omega.{arith}
 use lib.Dec.{leb}
 use lib.IntN.{ℤ, pos}
 use lib.Signed.{leZ}
-use borrow.Author.Tests.{eq-eqb, ne-eqb, leb-true, le-leb}
+use borrow.Author.Tests.{eq-eqb, ne-eqb, le-leb}
 use Rattle.ints.specs.Whole.{eqZ, between}
 use Rattle.ints.proofs.Parts.{signed}
-use Rattle.ints.proofs.Truth.{and-true, and-left, and-right}
+use Rattle.ints.proofs.Truth.{and-true, and-right}
 use Rattle.ints.proofs.Same.{same-is, is-same}
 use Rattle.grid.specs.Units.{cells}
 use Rattle.grid.specs.Curve.{curveNumber}
@@ -112,10 +112,9 @@ phase-of-key-small c key =
 
 -- ---- a right key
 
--- the key is that of a live phase, which is not before the phase of t
+-- the key is that of a live phase
 pub record Placed (now : ℤ) (r : Record) : Type 0 where
   pub key-is : r .key ≡ keyIn (phaseOfKey (phaseOf now) (r .key)) (r .report)
-  pub not-before : phaseOf (r .report .t) ≤ phaseOfKey (phaseOf now) (r .key)
   pub live : isLive (phaseOf now) (phaseOfKey (phaseOf now) (r .key)) ≡ true
   pub slot-is : slotOfKey (r .key) ≡ slotOf (phaseOfKey (phaseOf now) (r .key))
   pub in-slots : between (pos 0) (pos lastKey) (r .key) ≡ true
@@ -129,7 +128,6 @@ right-placed now r h =
     let slot : slotOfKey (r .key) ≡ slotOf p = ap slotOfKey key ∙ slot-of-key-in p (r .report) in
     record {
       key-is = key;
-      not-before = leb-true _ p (and-left _ (eqZ (r .key) (keyIn p (r .report))) h);
       live = with-slot-live c (slotOfKey (r .key)) (omega (arith, slot-on p));
       slot-is = slot;
       in-slots = rw key (key-in-below p (r .report));

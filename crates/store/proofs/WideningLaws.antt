@@ -214,7 +214,6 @@ table-length table r = simp length-set
 
 -- after j records
 pub record Widen (table₀ dead : List ℤ) (m : ℕ) (table : List ℤ) (j : ℕ) : Type 0 where
-  pub inside : j ≤ m
   pub table-long : length table ≡ tableWords
   pub table-is : widenedByAll table₀ (readRecords m dead) ≡ widenedByAll table (readRecords (m - j) (drop (recordWords * j) dead))
   pub ranged : allRanged (readRecords (m - j) (drop (recordWords * j) dead)) ≡ true
@@ -222,7 +221,7 @@ pub record Widen (table₀ dead : List ℤ) (m : ℕ) (table : List ℤ) (j : �
 pub widen-start : (table dead : List ℤ) (m : ℕ) → length table ≡ tableWords → allRanged (readRecords m dead) ≡ true → Widen table dead m table 0
 widen-start table dead m l r =
     let e : m - 0 ≡ m = omega arith in
-    record { inside = omega arith; table-long = l; table-is = rw e; ranged = rw e r }
+    record { table-long = l; table-is = rw e; ranged = rw e r }
 
 module _ (table₀ dead : List ℤ) (m : ℕ) (table : List ℤ) (j : ℕ) (p : Widen table₀ dead m table j) (h : j < m) (r : Record) (er : r ≡ recordFrom dead (recordWords * j)) where
   rest-here : readRecords (m - j) (drop (recordWords * j) dead) ≡ r ∷ readRecords (m - (j + 1)) (drop (recordWords * (j + 1)) dead)
@@ -240,7 +239,6 @@ module _ (table₀ dead : List ℤ) (m : ℕ) (table : List ℤ) (j : ℕ) (p : 
   widen-more table′ et =
       let rest = readRecords (m - (j + 1)) (drop (recordWords * (j + 1)) dead) in
       record {
-        inside = omega arith;
         table-long = ap length et ∙ table-length table r ∙ p .table-long;
         table-is = p .table-is ∙ ap (widenedByAll table) rest-here ∙ ap (λ (q : List ℤ). widenedByAll q rest) (sym et);
         ranged = and-right (isRanged r) (allRanged rest) rest-ranged;
