@@ -12,8 +12,7 @@ use Rattle.rows.specs.Phases.{phaseOf, referenceTime, isLive, livePhases}
 use Rattle.methods.specs.Reach.{expandedRange, expandedRect, blockOf, cellsOfRow, cellsOfRows, cellsOf, movedSpan, meets, movedCellMeets}
 use Rattle.methods.specs.Methods.{boundsIn, expandedBlock, iterated, choice}
 use Rattle.ledger.specs.Refusals.{firstToFail, isRectangle}
-use Rattle.ledger.specs.Machine.{steppedHeld, newPlacements, livePlacements, stepped, without, withReport, withoutId}
-use Rattle.ledger.specs.Machine.{speedsPlaced, rowsIn, usefulCells, putInOrder, idsInOrder, summed}
+use Rattle.ledger.specs.Machine.{steppedHeld, newPlacements, livePlacements, stepped, without, withReport, withoutId, speedsPlaced, rowsIn, usefulCells, putInOrder, idsInOrder, summed}
 use Rattle.ledger.specs.Calls as L
 use Rattle.fields.specs.Fields.{digits, written, fieldOf}
 use Rattle.fields.specs.Numbers.{fields}

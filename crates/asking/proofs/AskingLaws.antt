@@ -10,7 +10,7 @@ use lib.IntN.{natAbs}
 use lib.ListN.{length, drop, length-replicate}
 use Rattle.ints.specs.Whole.{up}
 use Rattle.ints.proofs.Parts.{abs, one-part}
-use Rattle.grid.specs.Units.{cells, idMarks}
+use Rattle.grid.specs.Units.{cells, idMarks, lastTime}
 use Rattle.grid.specs.Reports.{isListed}
 use Rattle.rows.specs.Row.{emptyRow, isEmpty, sameRow}
 use Rattle.rows.specs.Phases.{phaseOf, isLive, slotOf, livePhases, lastPhase}
@@ -42,10 +42,8 @@ use Rattle.ledger.specs.declared.Ask.{Ask}
 use Rattle.ledger.specs.declared.Refusal.the-variants.{ListTooShort}
 use Rattle.ledger.specs.declared.Verdict.{Verdict}
 use Rattle.ledger.specs.declared.Verdict.the-variants.{Passed, Failed}
-use Rattle.asking.specs.Asking.{listedOf, foundIn, phasesNow, idsNeeded, idsFound, cellsCounted, usefulCounted, roundsCounted}
-use Rattle.asking.specs.Asking.{AskOutcome, GivesList}
-use Rattle.asking.specs.Counted.{CanAsk, noIds, roomChecks, settledByRoom, CanChooseIn, CanReadIn, ReadIn}
-use Rattle.asking.specs.Counted.{SmallCounts, CountedTogether, CountedIn, CountedOver}
+use Rattle.asking.specs.Asking.{listedOf, foundIn, phasesNow, idsNeeded, idsFound, cellsCounted, usefulCounted, roundsCounted, AskOutcome, GivesList}
+use Rattle.asking.specs.Counted.{CanAsk, noIds, roomChecks, settledByRoom, CanChooseIn, CanReadIn, ReadIn, SmallCounts, CountedTogether, CountedIn, CountedOver}
 use Rattle.asking.specs.declared.Counts.{Counts}
 use Rattle.asking.proofs.AskingPhasesLaws.{FitAsk, fit-ask, good-method, asked-in}
 use Rattle.asking.proofs.Claims.{list-is-exact}
@@ -74,7 +72,7 @@ module _ (w : Words) (ask : Ask) (can : CanAsk w ask) where
   small-time : natAbs (ask .query .time) ≤ 2 ^ 30
   small-time =
       let asked = ask .query .time in
-      let f = between-from 0 999999999 asked (fit .is-time) in
+      let f = between-from 0 lastTime asked (fit .is-time) in
       omega (arith, abs asked, one-part asked)
 
   pub can-read : (ids : List ℕ) → length ids ≡ idMarks → CanReadIn (w .store) (ask .query) ids

@@ -12,7 +12,7 @@ use Rattle.ints.specs.Whole.{between}
 use Rattle.ints.proofs.Parts.{up, down, one-part, abs, le-true, true-le}
 use Rattle.ints.proofs.Machine.{back, fits}
 use Rattle.ints.proofs.Truth.{and-true, and-left, and-right}
-use Rattle.grid.specs.Units.{lastTime, cells}
+use Rattle.grid.specs.Units.{lastTime, cells, lastId, lastPosition}
 use Rattle.grid.specs.Reports.{isTime, isId, isPosition, isSpeed, inRange}
 use Rattle.grid.specs.Small.{SmallReport}
 use Rattle.grid.specs.declared.Report.{Report}
@@ -54,9 +54,9 @@ speed-held v h = toZ-ofZ (fits (omega (arith, speed-size v h, abs v)))
 -- ---- a report
 
 pub record Ranges (r : Report) : Type 0 where
-  pub id : From 1 65535 (r .id)
-  pub x : From 0 8388607 (r .x)
-  pub y : From 0 8388607 (r .y)
+  pub id : From 1 lastId (r .id)
+  pub x : From 0 lastPosition (r .x)
+  pub y : From 0 lastPosition (r .y)
   pub vx : isSpeed (r .vx) ≡ true
   pub vy : isSpeed (r .vy) ≡ true
 
@@ -69,9 +69,9 @@ ranges r h =
     let p = and-left places speeds rest in
     let v = and-right places speeds rest in
     record {
-      id = between-from 1 65535 (r .id) (and-left (isId (r .id)) (places && speeds) h);
-      x = between-from 0 8388607 (r .x) (and-left (isPosition (r .x)) (isPosition (r .y)) p);
-      y = between-from 0 8388607 (r .y) (and-right (isPosition (r .x)) (isPosition (r .y)) p);
+      id = between-from 1 lastId (r .id) (and-left (isId (r .id)) (places && speeds) h);
+      x = between-from 0 lastPosition (r .x) (and-left (isPosition (r .x)) (isPosition (r .y)) p);
+      y = between-from 0 lastPosition (r .y) (and-right (isPosition (r .x)) (isPosition (r .y)) p);
       vx = and-left (isSpeed (r .vx)) (isSpeed (r .vy)) v;
       vy = and-right (isSpeed (r .vx)) (isSpeed (r .vy)) v;
     }
@@ -140,7 +140,7 @@ pub parts-ranged : (r : Record) → InRanges r → isRanged r ≡ true
 unfolding isRanged
 parts-ranged r p = and-true _ _ (and-true _ _ (p .report) (p .time)) (p .key)
 
-pub id-from : (r : Record) → isRanged r ≡ true → From 1 65535 (r .report .id)
+pub id-from : (r : Record) → isRanged r ≡ true → From 1 lastId (r .report .id)
 id-from r h = ranges (r .report) (ranged-parts r h .report) .id
 
 pub slot-below : (r : Record) → isRanged r ≡ true → slotOfKey (r .key) < slots

@@ -194,9 +194,9 @@ fn replay(
 }
 
 fn main() {
-    let mut store = [0i32; 7175];
-    let mut table = [0i16; 12288];
-    let mut list = [0u16; 1024];
+    let mut store = [0i32; records::STORE_WORDS];
+    let mut table = [0i16; rows::TABLE_WORDS];
+    let mut list = [0u16; records::CAPACITY];
     let mut line = [0u8; LINE_BYTES];
     let mut chunk = io::large_buffer();
     let mut out = io::large_buffer();

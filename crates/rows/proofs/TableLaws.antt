@@ -329,13 +329,13 @@ rows-at-valid (suc n) table h =
 pub valid-row-at : (table : List ℤ) → validTable table ≡ true → (slot number : ℕ) → slot < slots → number < cells → validRow (rowAt table slot number) ≡ true
 unfolding rowAt
 valid-row-at table v slot number h k =
-    let e : rowPlace slot number ≡ 4 * (1024 * slot + number) = omega arith in
-    ap (λ (j : ℕ). validRow (rowFrom table j)) e ∙ valid-rows-at 3072 table v (1024 * slot + number) (omega arith)
+    let e : rowPlace slot number ≡ 4 * (cells * slot + number) = omega arith in
+    ap (λ (j : ℕ). validRow (rowFrom table j)) e ∙ valid-rows-at (slots * cells) table v (cells * slot + number) (omega arith)
 
 pub valid-of-rows : (table : List ℤ) → ((slot number : ℕ) → slot < slots → number < cells → validRow (rowAt table slot number) ≡ true) → validTable table ≡ true
 unfolding rowAt
 valid-of-rows table h =
-    rows-at-valid 3072 table
+    rows-at-valid (slots * cells) table
     (λ k l.
-    let e : 4 * k ≡ rowPlace (k / 1024) (k % 1024) = omega arith in
-    ap (λ (j : ℕ). validRow (rowFrom table j)) e ∙ h (k / 1024) (k % 1024) (omega arith) (omega arith))
+    let e : 4 * k ≡ rowPlace (k / cells) (k % cells) = omega arith in
+    ap (λ (j : ℕ). validRow (rowFrom table j)) e ∙ h (k / cells) (k % cells) (omega arith) (omega arith))

@@ -9,7 +9,7 @@ use native.Mathlib.Omega.{arith}
 use lib.IntN.{pos}
 use lib.ListN.{length, length-set, length-replicate, getD}
 use mir.Syntax.{w32}
-use Rattle.grid.specs.Units.{idMarks}
+use Rattle.grid.specs.Units.{idMarks, lastId}
 use Rattle.ints.specs.Whole.{up}
 use Rattle.ints.proofs.Machine.{held, tested₁}
 use Rattle.records.specs.Records.{recordWords, recordFrom, readRecords}
@@ -59,7 +59,7 @@ index-of-requires : tie.Need-index-of-requires Inv-loop μ-loop
 index-of-requires c κs =
     let at = c .before .before in
     let id = getD (at .before .args .words .now) (recordWords * at .loop .i + 1) (pos 0) in
-    rw (held w32 id (c .index-of-arg .given)) (from-between 1 65535 id (id-from _ (ranged (c .before))))
+    rw (held w32 id (c .index-of-arg .given)) (from-between 1 lastId id (id-from _ (ranged (c .before))))
 
 index-is :
     (c : tie.After-index-of Inv-loop μ-loop)

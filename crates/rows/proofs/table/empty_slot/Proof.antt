@@ -5,7 +5,7 @@ use Prim.Native.Nat.{_+_, _*_, _-_}
 use native.Mathlib.Omega.{arith}
 use borrow.Author.Needs.{needs}
 use lib.Seq.{drop-drop}
-use Rattle.rows.specs.Table.{withSlotEmpty}
+use Rattle.rows.specs.Table.{withSlotEmpty, slotWords}
 use Rattle.rows.proofs.table.empty_slot.Statement.{statement}
 use Rattle.rows.proofs.table.empty_slot.Tie as tie
 
@@ -36,8 +36,8 @@ same-length c = search needs
 returns : tie.Need-returns
 unfolding withSlotEmpty
 returns c =
-    let a = 4096 * c .before .before .before .args .slot in
-    let e : a + (a + 4096 - a) ≡ a + 4096 = omega arith in
+    let a = slotWords * c .before .before .before .args .slot in
+    let e : a + (a + slotWords - a) ≡ a + slotWords = omega arith in
     simp (c .before .empty-rows .ensures, drop-drop, e)
 
 pub empty-slot-spec : {M : Type 1} → statement M
