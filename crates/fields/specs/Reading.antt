@@ -1,4 +1,4 @@
--- How a number is read. That a written number is read, and that one that is read is written so, is proved in proofs/FieldLaws.antt.
+-- How a number is read. That a written number is read, and that one that is read is written so, is proved in proofs/FieldsLaws.antt.
 -- Assumes nothing.
 use mathlib.Core.Bool.{Bool, true, false, cond, _&&_}
 use mathlib.Core.List.{List}

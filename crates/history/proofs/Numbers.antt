@@ -22,7 +22,7 @@ use Rattle.ledger.specs.declared.Change.the-variants as Change
 use Rattle.engine.specs.Index.{openOut, clockOut}
 use Rattle.history.specs.Index.{fedAll}
 use Rattle.history.specs.Claims.{OneAndTwoNeverComeUp}
-use Rattle.history.specs.Examples.{numbers}
+use Rattle.history.specs.Examples.{limits, numbers}
 use Rattle.history.proofs.Claims.{every-history-is-the-ledgers}
 
 abbrev NotLent : ℕ → Type 0
@@ -85,6 +85,10 @@ one-and-two-never-come-up w time accepted calls r m =
     (subst (λ (rs : List Reply). List·Memᴰ r rs) (every-history-is-the-ledgers w time accepted calls) m)
 
 -- ---- computed
+
+pub limits-as-said : map (λ (s : Example). s .given) limits ≡ map (λ (s : Example). s .said) limits
+unfolding limits
+limits-as-said = refl
 
 pub numbers-as-said : map (λ (s : Example). s .given) numbers ≡ map (λ (s : Example). s .said) numbers
 unfolding numbers openOut clockOut firstToFail isSound isSoundStore

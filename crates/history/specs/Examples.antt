@@ -1,14 +1,26 @@
--- The numbers that the index gives for its lent buffers, and for a time out of range: what the definitions give, and what document 01 says.
+-- The limits that the definitions compute, and the numbers that the index gives for its lent buffers and for a time out of range: what the
+-- definitions give, and what document 01 says.
 -- Assumes nothing.
 use mathlib.Core.List.{List, [], _∷_}
 use lib.IntN.{ℤ, pos, negsuc}
 use lib.ListN.{replicate}
 use Rattle.grid.specs.Examples.{Example}
+use Rattle.grid.specs.Units.{cells, lastPosition}
 use Rattle.rows.specs.Table.{tableWords}
+use Rattle.methods.specs.Slices.{latest}
 use Rattle.records.specs.Records.{storeWords}
 use Rattle.records.specs.Words.{words}
 use Rattle.ledger.specs.Answers.{numberOf}
 use Rattle.engine.specs.Index.{openOut, clockOut}
+
+unfoldable pub limits : List Example
+limits =
+    record { given = lastPosition; said = 8388607 }
+    ∷ record { given = cells; said = 1024 }
+    ∷ record { given = storeWords; said = 7175 }
+    ∷ record { given = tableWords; said = 12288 }
+    ∷ record { given = latest; said = 17999 }
+    ∷ []
 
 -- buffers of the right lengths; a store whose every word is -1 is unsound
 abbrev pub wholeStore : ℤ → List ℤ

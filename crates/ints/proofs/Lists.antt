@@ -9,11 +9,7 @@ use native.Mathlib.Omega.{arith}
 use lib.ListN.{length}
 unfoldable pub use Rattle.ints.specs.Lists.{passing, some, every}
 use Rattle.ints.proofs.Parts.{true-false}
-use Rattle.ints.proofs.Truth.{or-left, or-right, and-true, and-left, and-right}
-
-pub false-of : (b : Bool) → (b ≡ true → ⊥) → b ≡ false
-false-of true n = absurd (n refl)
-false-of false n = refl
+use Rattle.ints.proofs.Truth.{false-of, or-left, or-right, and-true, and-left, and-right}
 
 -- ---- what a function makes of the elements
 

@@ -10,6 +10,7 @@ use lib.Dec.{T, leb}
 use lib.IntN.{ℤ, pos, negsuc, natAbs}
 use lib.Pow.{pow-pos}
 use lib.Signed.{mag, leZ, nonNeg}
+use borrow.Author.Needs.{sfits-of}
 use mir.Syntax.{Width}
 use mir.Val.{SFits, hbits, toZ, ofZ}
 use mir.Facts.{toZ-ofZ, sfits-widen}
@@ -25,9 +26,6 @@ back w z = toZ w (ofZ w z)
 pub fits : {w : Width} {z : ℤ} → (up z < 2 ^ hbits w + down z) × (down z ≤ 2 ^ hbits w + up z) → SFits w z
 fits {z = pos n} h = record { sfits = omega arith }
 fits {z = negsuc n} h = record { sfits = omega arith }
-
-pub fits-mag : (w : Width) (z : ℤ) → mag z < 2 ^ hbits w → SFits w z
-fits-mag w z h = record { sfits = h }
 
 pub of-fits : (w : Width) (z : ℤ) → SFits w z → (up z < 2 ^ hbits w) × (down z ≤ 2 ^ hbits w)
 of-fits w (pos n) h = omega (arith, pow-pos (hbits w))
@@ -63,7 +61,7 @@ known {w} {z} f =
 -- ---- a cast from a signed type w to one at least as wide, w′
 
 pub wide-fits : (w w′ : Width) → T (leb (hbits w) (hbits w′)) → (z : ℤ) → mag z < 2 ^ hbits w → SFits w′ (back w z)
-wide-fits w w′ t z h = subst (SFits w′) (sym (held w z h)) (sfits-widen t (fits-mag w z h))
+wide-fits w w′ t z h = subst (SFits w′) (sym (held w z h)) (sfits-widen t (sfits-of {w = w} {z = z} h))
 
 pub wide-back : (w w′ : Width) → T (leb (hbits w) (hbits w′)) → (z : ℤ) → mag z < 2 ^ hbits w → back w′ (back w z) ≡ z
 wide-back w w′ t z h = toZ-ofZ {w = w′} (wide-fits w w′ t z h) ∙ held w z h

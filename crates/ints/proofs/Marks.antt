@@ -1,7 +1,7 @@
 -- Marks by number: which are set by a list of numbers. And how many numbers of a stretch pass a test.
 -- Assumes nothing.
 use mathlib.Core.Path.{_≡_, refl, ap, ap₂, _∙_}
-use mathlib.Core.Bool.{Bool, true, false, _&&_, not, cond}
+use mathlib.Core.Bool.{Bool, true, false, _&&_, not, cond, and-true, and-false}
 use mathlib.Core.List.{List, [], _∷_, _++_, List·Memᴰ, List·Memᴰ·head, List·Memᴰ·tail, List·Memᴰ·cases-cons, List·Memᴰ·not-nil}
 use mathlib.Core.Logic.{_⊎_, inl, inr, ⊎-elim, dite}
 use Prim.Native.Nat.{ℕ, zero, suc, _+_, _≤_, _<_}
@@ -109,16 +109,8 @@ counted-none f from (suc n) h =
 abbrev pub without : (ℕ → Bool) → ℕ → ℕ → Bool
 without f m i = f i && not (eqb i m)
 
-and-false : (b : Bool) → b && false ≡ false
-and-false true = refl
-and-false false = refl
-
-and-itself : (b : Bool) → b && true ≡ b
-and-itself true = refl
-and-itself false = refl
-
 pub without-other : (f : ℕ → Bool) (m i : ℕ) → (i ≡ m → ⊥) → without f m i ≡ f i
-without-other f m i n = rw (ne-eqb i m n) (and-itself (f i))
+without-other f m i n = rw (ne-eqb i m n) (and-true (f i))
 
 pub without-same : (f : ℕ → Bool) (m i : ℕ) → i ≡ m → without f m i ≡ false
 without-same f m i e = rw (eq-eqb i m e) (and-false (f i))

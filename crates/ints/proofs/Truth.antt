@@ -36,10 +36,10 @@ or-swap true true c = refl
 or-swap true false c = refl
 or-swap false b c = refl
 
-pub and-assoc : (a b c : Bool) → a && (b && c) ≡ (a && b) && c
-and-assoc true b c = refl
-and-assoc false b c = refl
+pub or-both : (a b c : Bool) → (a || b) || (a || c) ≡ a || (b || c)
+or-both true b c = refl
+or-both false b c = refl
 
-pub and-yes : (a : Bool) → a && true ≡ a
-and-yes true = refl
-and-yes false = refl
+pub false-of : (a : Bool) → (a ≡ true → ⊥) → a ≡ false
+false-of true n = absurd (n refl)
+false-of false n = refl

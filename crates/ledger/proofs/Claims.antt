@@ -16,6 +16,7 @@ use Rattle.ledger.specs.Answers.{refusalNumber, numberOf, valueOf, noCou
 use Rattle.ledger.specs.Refusals.{Check, unless, firstToFail, inNumberOrder, changeChecks}
 use Rattle.ledger.specs.Machine.{Ledger}
 use Rattle.ledger.specs.Calls.{checksOf}
+use Rattle.ledger.proofs.RefusalsLaws.{not-both}
 use Rattle.ledger.specs.Claims.{ChecksStandInOrder, FirstFails, FirstToFailIsGiven, LeastNumberIsGiven, RefusalIsPlain, RefusalsArePlain}
 use Rattle.ledger.specs.declared.Answer.{Answer}
 use Rattle.ledger.specs.declared.Answer.the-variants.{Accepted, Listed, Refused}
@@ -69,18 +70,14 @@ first-later b e f = record {
   failed = f .failed;
 }
 
--- a verdict told apart: the refusals of two that fail, and one that fails from one that passes
+-- the refusal of a verdict that fails
 refusalIn : Verdict → Refusal → Refusal
 refusalIn Passed other = other
 refusalIn (Failed r) other = r
 
-hasFailed : Verdict → Bool
-hasFailed Passed = false
-hasFailed (Failed r) = true
-
 first-from : (cs : List Check) (r : Refusal) → firstToFail cs ≡ Failed r → (c : Check) × FirstFails c cs × (c .refusal ≡ r)
-unfolding firstToFail refusalIn hasFailed
-first-from [] r e = absurd (true-false (sym (ap hasFailed e)))
+unfolding firstToFail refusalIn
+first-from [] r e = absurd (not-both refl e)
 first-from (c ∷ cs) r e = go (c .fails) refl (first-from cs r) e
   where
     go :

@@ -13,8 +13,8 @@ use borrow.Author.Tests.{eqb-true, eq-eqb}
 use Rattle.ints.specs.Whole.{eqZ}
 use Rattle.ints.specs.Lists.{passing, some}
 use Rattle.ints.proofs.Parts.{true-false}
-use Rattle.ints.proofs.Truth.{and-true, and-left}
-use Rattle.ints.proofs.Lists.{false-of, map-in, map-has, map-append, passing-in, passing-has, passing-append, passing-none, passing-twice}
+use Rattle.ints.proofs.Truth.{and-true, and-left, false-of}
+use Rattle.ints.proofs.Lists.{map-in, map-has, map-append, passing-in, passing-has, passing-append, passing-none, passing-twice}
 use Rattle.grid.specs.Places.{sameCell}
 use Rattle.grid.specs.declared.Cell.{Cell}
 use Rattle.grid.proofs.PlacesLaws.{cell-same}

@@ -9,9 +9,9 @@ use native.Mathlib.Omega.{arith}
 use lib.Dec.{eqb}
 use lib.ListN.{length, getD, set, replicate}
 use Rattle.ints.proofs.Parts.{true-false}
-use Rattle.ints.proofs.Truth.{and-left}
+use Rattle.ints.proofs.Truth.{and-left, false-of}
 use Rattle.ints.specs.Lists.{passing}
-use Rattle.ints.proofs.Lists.{false-of, map-has, map-in, passing-all}
+use Rattle.ints.proofs.Lists.{map-has, map-in, passing-all}
 use Rattle.ints.proofs.Marks.{marked, in-marked, marked-in, bit, counted, counted-none, counted-apart, without, without-other, without-same}
 use Rattle.grid.specs.Units.{cells}
 use Rattle.grid.specs.Places.{OnGrid}

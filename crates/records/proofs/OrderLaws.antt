@@ -12,7 +12,7 @@ use Rattle.ints.specs.Whole.{eqZ}
 use Rattle.ints.specs.Lists.{some}
 use Rattle.ints.proofs.Parts.{signed}
 use Rattle.ints.proofs.Truth.{and-true, and-left, and-right, or-right, or-neither}
-use Rattle.ints.proofs.Same.{same-not, same-comm}
+use Rattle.ints.proofs.Same.{unequal-below, same-comm}
 use Rattle.records.specs.Order.{precedes, precedesFirst, isSorted, hasId}
 use Rattle.records.specs.Soundness.{idsDistinct}
 use Rattle.records.specs.declared.Record.{Record}
@@ -73,13 +73,6 @@ precedes-asym a b h = go (precedes b a) refl
     go true e = absurd (not-before-itself a (precedes-trans a b a h e))
     go false e = refl
 
-other-id : (a b : ℤ) → eqZ a b ≡ false → ltZ a b ≡ false → ltZ b a ≡ true
-other-id a b h k = go (ltZ b a) refl
-  where
-    go : (t : Bool) → ltZ b a ≡ t → t ≡ true
-    go true e = refl
-    go false e = absurd (same-not a b h (omega (arith, signed)))
-
 -- of two records with different ids one precedes the other
 pub precedes-total : (a b : Record) → eqZ (a .report .id) (b .report .id) ≡ false → precedes a b ≡ false → precedes b a ≡ true
 unfolding precedes eqZ
@@ -95,7 +88,7 @@ precedes-total a b n h = go (ltZ (b .key) (a .key)) refl
         let y : leZ (b .key) (a .key) ≡ true = omega (arith, signed, up) in
         let same : eqZ (a .key) (b .key) ≡ true = and-true _ _ x y in
         let i : ltZ (a .report .id) (b .report .id) ≡ false = rw same at (or-neither (ltZ (a .key) (b .key)) _ h .1) in
-        by-id b a (record { not-above = y; not-below = x; ids = other-id (a .report .id) (b .report .id) n i })
+        by-id b a (record { not-above = y; not-below = x; ids = unequal-below (a .report .id) (b .report .id) n (omega (arith, signed, i)) })
 
 -- ---- lists in order
 

@@ -104,8 +104,8 @@ pub fn key_of(slot: usize, number: usize) -> i32
     (slot * grid::CELLS + number) as i32
 }
 
-// The key of a report in phase p: the slot, and the curve number of the cell at the phase's reference time. 277,777 is the phase of the
-// last time. `numbers` is the grid's table of curve numbers.
+// The key of a report in phase p: the slot, and the curve number of the cell at the phase's reference time. `numbers` is the grid's table of curve
+// numbers.
 pub fn key_in(numbers: &[u16; grid::CELLS], p: usize, r: Report) -> i32
     requires { ⌜ CanKey (now numbers) p r ⌝ }
     ensures { λ k. ⌜ k ≡ keyIn p r ⌝ }

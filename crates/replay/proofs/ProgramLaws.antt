@@ -14,6 +14,7 @@ use mir.Syntax.{w64}
 use mir.Val.{bits, hbits, ofZ}
 use borrow.Author.Tests.{eq-eqb, ne-eqb, leb-true, leb-false, not-false}
 use Rattle.ints.proofs.Parts.{true-false}
+use Rattle.ints.proofs.Truth.{false-of}
 use Rattle.rows.specs.Table.{tableWords}
 use Rattle.records.specs.Records.{storeWords}
 use Rattle.ledger.specs.Answers.{isAccepted}
@@ -186,10 +187,6 @@ end-told : (got : ℤ) → mag got < 2 ^ hbits w64 → eqb (ofZ w64 got) 0 ≡ i
 end-told (pos k) h = refl
 end-told (negsuc k) h = ne-eqb (2 ^ bits w64 - suc k) 0 (λ e. omega arith)
 
-not-true : (b : Bool) → (b ≡ true → ⊥) → b ≡ false
-not-true true never = absurd (never refl)
-not-true false never = refl
-
 -- nothing
 module _ {chunk : List ℕ} {store table : List ℤ} {list line : List ℕ} {used : ℕ} (got : ℤ) where
   pub nothing-read :
@@ -235,7 +232,7 @@ module _ {chunk : List ℕ} {store table store′ table′ : List ℤ} {list′ 
           goes-on = λ m. omega arith;
         };
         got-is = gave ∙ is;
-        ended-is = not-true (turn .ended) (λ m. let z = t .ends m in omega arith) ∙ sym (ne-eqb k 0 (λ z. omega arith));
+        ended-is = false-of (turn .ended) (λ m. let z = t .ends m in omega arith) ∙ sym (ne-eqb k 0 (λ z. omega arith));
       }
 
 -- ---- one read after another

@@ -13,6 +13,7 @@ use Rattle.ints.specs.Whole.{minZ, maxZ, eqZ, between}
 use Rattle.ints.proofs.Parts.{signed, abs, one-part, true-false}
 use Rattle.ints.proofs.Least.{min-comm, max-comm, min-assoc, max-assoc, min-same, max-same, min-below, max-above, min-greatest, max-least, le-refl, le-trans}
 use Rattle.ints.proofs.Truth.{and-true, and-left, and-right}
+use Rattle.ints.proofs.Same.{same-is, is-same}
 use Rattle.grid.specs.Units.{speedLimit}
 use Rattle.rows.specs.Row.{emptyRow, rowOfDrift, joined, widened, holds, sameRow, isEmpty, validAxis, validRow, boundsOf}
 use Rattle.rows.specs.declared.Drift.{Drift}
@@ -139,28 +140,20 @@ widened-holds r v = holds-within (within-joined-right r (rowOfDrift v)) v (holds
 
 -- ---- the same row, and the empty one
 
-eq-true : (a b : ℤ) → eqZ a b ≡ true → a ≡ b
-unfolding eqZ
-eq-true a b h = same-by-order a b (and-left _ (leZ b a) h) (and-right (leZ a b) _ h)
-
-eq-refl : (a : ℤ) → eqZ a a ≡ true
-unfolding eqZ
-eq-refl a = and-true _ _ (le-refl a) (le-refl a)
-
 pub same-row-true : (a b : Row) → sameRow a b ≡ true → a ≡ b
 unfolding sameRow
 same-row-true a b h =
     let x = and-left _ (eqZ (a .«least_vy») (b .«least_vy») && eqZ (a .«greatest_vy») (b .«greatest_vy»)) h in
     let y = and-right (eqZ (a .«least_vx») (b .«least_vx») && eqZ (a .«greatest_vx») (b .«greatest_vx»)) _ h in
     same-numbers
-    (eq-true _ _ (and-left _ (eqZ (a .«greatest_vx») (b .«greatest_vx»)) x))
-    (eq-true _ _ (and-right (eqZ (a .«least_vx») (b .«least_vx»)) _ x))
-    (eq-true _ _ (and-left _ (eqZ (a .«greatest_vy») (b .«greatest_vy»)) y))
-    (eq-true _ _ (and-right (eqZ (a .«least_vy») (b .«least_vy»)) _ y))
+    (same-is _ _ (and-left _ (eqZ (a .«greatest_vx») (b .«greatest_vx»)) x))
+    (same-is _ _ (and-right (eqZ (a .«least_vx») (b .«least_vx»)) _ x))
+    (same-is _ _ (and-left _ (eqZ (a .«greatest_vy») (b .«greatest_vy»)) y))
+    (same-is _ _ (and-right (eqZ (a .«least_vy») (b .«least_vy»)) _ y))
 
 pub same-row-refl : (a : Row) → sameRow a a ≡ true
 unfolding sameRow
-same-row-refl a = and-true _ _ (and-true _ _ (eq-refl _) (eq-refl _)) (and-true _ _ (eq-refl _) (eq-refl _))
+same-row-refl a = and-true _ _ (and-true _ _ (is-same _ _ refl) (is-same _ _ refl)) (and-true _ _ (is-same _ _ refl) (is-same _ _ refl))
 
 pub empty-is : (r : Row) → isEmpty r ≡ true → r ≡ emptyRow
 unfolding isEmpty

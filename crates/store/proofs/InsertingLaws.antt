@@ -3,7 +3,7 @@
 -- words.
 -- Assumes nothing.
 use mathlib.Core.Path.{_≡_, refl, sym, ap, _∙_}
-use mathlib.Core.Bool.{Bool, true, false, cond, _||_}
+use mathlib.Core.Bool.{Bool, true, false, cond, _||_, or-assoc}
 use mathlib.Core.List.{List, [], _∷_, List·Memᴰ, List·Memᴰ·head, List·Memᴰ·tail, List·Memᴰ·cases-cons, List·Memᴰ·not-nil, _++_, append-assoc}
 use mathlib.Core.Logic.{_⊎_, inl, inr, ⊎-elim}
 use Prim.Native.Nat.{ℕ, suc, _+_, _-_, _*_, _≤_, _<_, _^_}
@@ -170,19 +170,14 @@ all-every f [] rs h k = k
 all-every f (d ∷ ds) rs h k =
     all-every f ds (inserted d rs) (and-right (f d) (every f ds) h) (inserted-every f d rs (and-left (f d) (every f ds) h) k)
 
-or-move : (x d r : Bool) → x || (d || r) ≡ (d || x) || r
-or-move true true r = refl
-or-move true false r = refl
-or-move false true r = refl
-or-move false false r = refl
-
 pub has-all : (id : ℤ) (ds rs : List Record) → hasId id (insertedAll ds rs) ≡ hasId id ds || hasId id rs
 unfolding insertedAll some
 has-all id [] rs = refl
 has-all id (d ∷ ds) rs =
     has-all id ds (inserted d rs)
     ∙ ap (λ (b : Bool). hasId id ds || b) (has-inserted id d rs)
-    ∙ or-move (hasId id ds) (eqZ (d .report .id) id) (hasId id rs)
+    ∙ or-swap (hasId id ds) (eqZ (d .report .id) id) (hasId id rs)
+    ∙ sym (or-assoc (eqZ (d .report .id) id) (hasId id ds) (hasId id rs))
 
 -- records to be put in, whose ids differ from one another and from those there
 pub record Apart (ds ks : List Record) : Type 0 where

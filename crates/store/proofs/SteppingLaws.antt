@@ -2,7 +2,7 @@
 -- makes no difference whether one record more is put in before or after. Who stays and who moves are any two tests until the last section.
 -- Assumes nothing.
 use mathlib.Core.Path.{_≡_, refl, sym, ap, _∙_}
-use mathlib.Core.Bool.{Bool, true, false, cond, not, _&&_, _||_}
+use mathlib.Core.Bool.{Bool, true, false, cond, not, _&&_, _||_, or-assoc, and-not-self, or-not-self}
 use mathlib.Core.List.{List, [], _∷_, map, List·Memᴰ, List·Memᴰ·cases-cons}
 use mathlib.Core.Logic.{⊎-elim}
 use Prim.Native.Nat.{ℕ, suc, _+_, _≤_}
@@ -12,7 +12,7 @@ use lib.ListN.{length, length-map}
 use Rattle.ints.specs.Whole.{eqZ}
 use Rattle.ints.specs.Lists.{passing, some}
 use Rattle.ints.proofs.Parts.{true-false}
-use Rattle.ints.proofs.Truth.{or-swap}
+use Rattle.ints.proofs.Truth.{or-swap, or-both}
 use Rattle.ints.proofs.Same.{same-comm}
 use Rattle.ints.proofs.Lists.{map-in, passing-in, none-passes, passing-some, some-map, every-each, each-every}
 use Rattle.rows.specs.Phases.{phaseOf}
@@ -148,14 +148,6 @@ module _ (p : ℕ) (staying moving : Record → Bool) where
   stepped-replaced r rs e f n =
       ap (insertedAll (replaced p moving (inserted r rs))) (passing-other staying r rs e)
       ∙ replaced-one p moving r rs (passing staying rs) f n
-
-or-assoc : (s t u : Bool) → (s || t) || u ≡ s || (t || u)
-or-assoc true t u = refl
-or-assoc false t u = refl
-
-or-both : (h m s : Bool) → (h || m) || (h || s) ≡ h || (m || s)
-or-both true m s = refl
-or-both false m s = refl
 
 module _ (staying moving : Record → Bool) where
   -- nobody both stays and moves
@@ -293,19 +285,11 @@ module _ (p : ℕ) (staying moving : Record → Bool) where
 
 module _ (now time : ℤ) where
   not-both : NotBoth (stays now time) (moves now time)
-  not-both r = go (stays now time r)
-    where
-      go : (b : Bool) → b && not b ≡ false
-      go true = refl
-      go false = refl
+  not-both r = and-not-self (stays now time r)
 
   -- today nobody leaves: a record stays or moves
   none-leaves : NoneLeaves (stays now time) (moves now time)
-  none-leaves r = go (stays now time r)
-    where
-      go : (b : Bool) → b || not b ≡ true
-      go true = refl
-      go false = refl
+  none-leaves r = or-not-self (stays now time r)
 
   pub halves-few : (rs : List Record) → length (replaced (phaseOf time) (moves now time) rs) + length (passing (stays now time) rs) ≤ length rs
   halves-few = by-few (phaseOf time) (stays now time) (moves now time) not-both
