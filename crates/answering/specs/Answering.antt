@@ -41,9 +41,7 @@ pub record CanAnswer (most : ℕ) (store table : List ℤ) (list out : List ℕ)
 
 -- and the letter of a line
 pub record CanTell (line : Line) (letter : ℕ) (store table : List ℤ) (list out : List ℕ) : Type 0 where
-  pub at-point : AtPoint store table
-  pub list-long : length list ≡ listLength
-  pub room : longestAnswer ≤ length out
+  pub can-answer : CanAnswer longestAnswer store table list out
   pub letter-is : letter ≡ letterOf line
 
 -- what a line leaves and writes, whatever the list whose point the words are at

@@ -27,8 +27,7 @@ pub record Lent (store table : List ℤ) : Type 0 where
 
 -- the program's buffers, whatever they hold
 pub record LentAll (store table : List ℤ) (list line out : List ℕ) : Type 0 where
-  pub store-long : length store ≡ storeWords
-  pub table-long : length table ≡ tableWords
+  pub lent : Lent store table
   pub list-long : length list ≡ listLength
   pub line-long : length line ≡ lineBytes
   pub room : answerBytes ≤ length out

@@ -29,12 +29,13 @@ call-requires : tie.Need-call-requires
 call-requires c κs =
     let s = c .before .before .before in
     let a = s .before .before in
-    point-sound (entry a) (a .pre .at-point .ledger) (a .pre .at-point .point)
+    point-sound (entry a) (a .pre .can-answer .at-point .ledger) (a .pre .can-answer .at-point .point)
 
 few : (c : tie.After-call) → idsTold (c .call .result) ≤ length (now (start c .args .list))
 few c =
     let a = start c in
-    told-few (a .args .call) (entry a) (now (a .args .list)) (words (c .call .last .0) (c .call .last .1 .0)) (c .call .last .1 .1 .0) (c .call .result) (c .call .ensures) (a .pre .list-long)
+    told-few (a .args .call) (entry a) (now (a .args .list)) (words (c .call .last .0) (c .call .last .1 .0)) (c .call .last .1 .1 .0)
+    (c .call .result) (c .call .ensures) (a .pre .can-answer .list-long)
 
 ids-told-requires : tie.Need-ids-told-requires
 ids-told-requires c κs = search needs
@@ -58,7 +59,7 @@ write-answer-requires c κs =
     rw (i .ids-told .ensures)
     (told-fits (a .args .call) (entry a) (now (a .args .list))
     (words (m .call .last .0) (m .call .last .1 .0)) (m .call .last .1 .1 .0) (m .call .result) (m .call .ensures)
-    (a .pre .list-long) (a .pre .at-point) (now (a .args .out)) (a .pre .room))
+    (a .pre .can-answer .list-long) (a .pre .can-answer .at-point) (now (a .args .out)) (a .pre .can-answer .room))
 
 same-length : tie.Need-same-length
 same-length c = search needs
@@ -78,8 +79,8 @@ returns c =
     let i = w .before .before .before in
     let m = called i in
     let a = start m in
-    answers-made (a .args .call) (entry a) (now (a .args .list)) (words (m .call .last .0) (m .call .last .1 .0)) (m .call .last .1 .1 .0) (m .call .result) (m .call .ensures) (a .pre .list-long)
-    (a .args .letter) (a .pre .letter-is) (now (a .args .out)) (w .write-answer .last .1 .1 .1 .0) (w .write-answer .result)
+    answers-made (a .args .call) (entry a) (now (a .args .list)) (words (m .call .last .0) (m .call .last .1 .0)) (m .call .last .1 .1 .0)
+    (m .call .result) (m .call .ensures) (a .pre .can-answer .list-long) (a .args .letter) (a .pre .letter-is) (now (a .args .out)) (w .write-answer .last .1 .1 .1 .0) (w .write-answer .result)
     (rw (i .ids-told .ensures) at (w .write-answer .ensures))
 
 pub answer-call-spec : {M : Type 1} → statement M

@@ -60,7 +60,7 @@ answer-call-requires c κs =
     let k = c .before .before .before .before in
     let s = k .before .before in
     let a = start (s .before .before) in
-    record { at-point = a .pre .at-point; list-long = a .pre .list-long; room = a .pre .room; letter-is = letter s .1 }
+    record { can-answer = a .pre; letter-is = letter s .1 }
 
 enum-told : tie.Need-enum-told
 enum-told c = search needs
