@@ -20,7 +20,7 @@ use Rattle.fields.specs.declared.reading.Seen.{Seen}
 use Rattle.fields.specs.declared.reading.Seen.the-variants.{Blanks, Minus, Zero, Digits, Other}
 use Rattle.fields.specs.Fields.{digit, fieldOf, isWritable, greatest, leastSize}
 use Rattle.fields.specs.Reading.{withDigit, after, number, noNumber, numberOf, seenAt, fieldAt}
-use Rattle.fields.specs.Writing.{columnsOf, tenColumns}
+use Rattle.fields.specs.Writing.{columnsOf, numberIn}
 use Rattle.fields.proofs.WritingLaws.{columns-more, field-above, field-below, in-range}
 
 -- what stands before the digits of a number, and what is seen of that alone
@@ -140,7 +140,7 @@ columns-read negative (suc k) n h l =
         absurd (e (omega arith)))
 
 -- ten columns, of which the last is a digit
-ten-read : (negative : Bool) (n : ℕ) → 0 < n → n / 10 < 10 ^ (9 - lengthOf negative) → readAll Blanks (tenColumns (leadFor negative) n) ≡ Digits negative n
+ten-read : (negative : Bool) (n : ℕ) → 0 < n → n / 10 < 10 ^ (9 - lengthOf negative) → readAll Blanks (numberIn 10 (leadFor negative) n) ≡ Digits negative n
 ten-read negative n h l =
     read-append Blanks (columnsOf 9 (leadFor negative) (n / 10)) (digit (n % 10))
     ∙ ap (λ (s : Seen). after s (digit (n % 10))) (columns-read negative 9 (n / 10) (room negative) l)
@@ -150,7 +150,7 @@ ten-read negative n h l =
     room false = lit≤ tt
     room true = lit≤ tt
 
-zero-read : readAll Blanks (tenColumns 32 0) ≡ Zero
+zero-read : readAll Blanks (numberIn 10 32 0) ≡ Zero
 unfolding columnsOf readAll after
 zero-read = refl
 

@@ -1,13 +1,14 @@
--- Several numbers: which a line may have, where each written field stands, and numbers put one after the other.
+-- Several numbers: which a line may have, where each written field stands, and numbers put one after the other, each in as many columns.
 -- Assumes nothing.
 use mathlib.Core.Path.{_≡_, refl, sym, ap, ap₂, _∙_}
 use mathlib.Core.Bool.{true}
 use mathlib.Core.List.{List, [], _∷_, _++_, append-assoc, map}
 use Prim.Native.Nat.{ℕ, zero, suc, _+_, _*_, _≤_, _<_}
-use native.Mathlib.Nat.{add-zero}
+use native.Mathlib.Nat.{mul-zero, mul-suc, mul-add, pow-le-pow-right}
 use native.Mathlib.Numerals.{add-one}
 use native.Mathlib.Omega.{arith}
 use borrow.Author.Tests.{le-leb, leb-true}
+use lib.Dec.{lit<}
 use lib.IntN.{ℤ, pos}
 use lib.ListN.{length, getD, take, drop, length-append, drop-of-length-le}
 use lib.Seq.{take-at, drop-append-add, drop-cons}
@@ -16,10 +17,11 @@ use mir.Facts.{toZ-ofZ}
 use Rattle.ints.specs.Lists.{every}
 use Rattle.ints.proofs.Machine.{back, fits}
 use Rattle.ints.proofs.Truth.{and-true, and-left, and-right}
-use Rattle.fields.specs.Fields.{fieldOf, isWritable, greatest}
-use Rattle.fields.specs.Numbers.{fields, areWritable, nth}
+use Rattle.fields.specs.Fields.{width, digits, written, justified, fieldOf, isWritable, greatest}
+use Rattle.fields.specs.Numbers.{fields, areWritable, nth, inColumns, shortDigits}
 use Rattle.fields.specs.Put.{put}
-use Rattle.fields.proofs.WritingLaws.{in-range, length-field}
+use Rattle.fields.specs.Writing.{numberIn}
+use Rattle.fields.proofs.WritingLaws.{in-range, length-field, length-number, number-above}
 use Rattle.fields.proofs.FieldsLaws.{part}
 use Rattle.fields.proofs.PutLaws.{put-put, put-none}
 
@@ -62,14 +64,58 @@ pub ids-writable : (ids : List ℕ) → ((i : ℕ) → getD ids i 0 < 65536) →
 ids-writable [] f = none-writable
 ids-writable (id ∷ ids) f = more-writable (pos id) (map pos ids) (pos-writable id (omega (arith, f 0))) (ids-writable ids (λ i. f (suc i)))
 
--- ---- their fields
+-- ---- texts of so many columns each, one after the other
+
+-- the text of some things is that of each in turn
+pub record InTurn {A : Type 0} (text : A → List ℕ) (texts : List A → List ℕ) : Type 0 where
+  pub none : texts [] ≡ []
+  pub more : (x : A) (xs : List A) → texts (x ∷ xs) ≡ text x ++ texts xs
+
+-- what is left to put from the i-th on
+abbrev pub left : {A : Type 0} → (List A → List ℕ) → ℕ → ℕ → List A → List ℕ → ℕ → List ℕ
+left texts columns at xs out i = put out (at + columns * i) (texts (drop i xs))
+
+pub left-all : {A : Type 0} (texts : List A → List ℕ) (columns at : ℕ) (xs : List A) (out : List ℕ) → put out at (texts xs) ≡ left texts columns at xs out 0
+left-all texts columns at xs out =
+    let e : at ≡ at + columns * 0 = omega (arith, mul-zero columns) in
+    ap (λ (i : ℕ). put out i (texts xs)) e
+
+module _ {A : Type 0} {text : A → List ℕ} {texts : List A → List ℕ} (turn : InTurn text texts) (columns : ℕ) where
+  length-texts : (d : A) (xs : List A) → ((i : ℕ) → i < length xs → length (text (getD xs i d)) ≡ columns) → length (texts xs) ≡ columns * length xs
+  length-texts d [] f = ap length (turn .none) ∙ sym (mul-zero columns)
+  length-texts d (x ∷ xs) f =
+      ap length (turn .more x xs)
+      ∙ length-append (text x) (texts xs)
+      ∙ omega (arith, f 0 (omega arith), length-texts d xs (λ i l. f (suc i) (omega arith)), mul-suc columns (length xs))
+
+  pub left-none : (at : ℕ) (xs : List A) (out : List ℕ) (i : ℕ) → length xs ≤ i → left texts columns at xs out i ≡ out
+  left-none at xs out i h =
+      ap (put out (at + columns * i)) (ap texts (drop-of-length-le xs h) ∙ turn .none) ∙ put-none out (at + columns * i)
+
+  pub left-next :
+      (d : A) (at : ℕ) (xs : List A) (out out′ : List ℕ) (i : ℕ)
+      → at + columns * i ≤ length out
+      → i < length xs
+      → length (text (getD xs i d)) ≡ columns
+      → out′ ≡ put out (at + columns * i) (text (getD xs i d))
+      → left texts columns at xs out i ≡ left texts columns at xs out′ (i + 1)
+  left-next d at xs out out′ i h l w e =
+      let x = getD xs i d in
+      let rest = texts (drop (suc i) xs) in
+      let next : at + columns * i + columns ≡ at + columns * (i + 1) = omega (arith, mul-add columns i 1) in
+      ap (put out (at + columns * i)) (ap texts (drop-cons xs i d l) ∙ turn .more x (drop (suc i) xs))
+      ∙ sym (put-put out (at + columns * i) (text x) rest h)
+      ∙ ap₂ (λ (t : List ℕ) (k : ℕ). put t (at + columns * i + k) rest) (sym e) w
+      ∙ ap₂ (λ (p j : ℕ). put out′ p (texts (drop j xs))) next (sym (add-one i))
+
+-- ---- fields
+
+pub fields-in-turn : InTurn fieldOf fields
+unfolding fields
+fields-in-turn = record { none = refl; more = λ z zs. refl }
 
 pub length-fields : (zs : List ℤ) → areWritable zs ≡ true → length (fields zs) ≡ 10 * length zs
-unfolding fields
-length-fields [] h = refl
-length-fields (z ∷ zs) h =
-    length-append (fieldOf z) (fields zs)
-    ∙ omega (arith, length-field z (first-writable z zs h), length-fields zs (rest-writable z zs h))
+length-fields zs h = length-texts fields-in-turn 10 (pos 0) zs (λ i l. length-field (nth zs i) (writable-at zs i h l))
 
 pub fields-append : (xs ys : List ℤ) → fields (xs ++ ys) ≡ fields xs ++ fields ys
 unfolding fields
@@ -86,37 +132,26 @@ part-of-fields (z ∷ zs) (suc i) h l =
     ap (take 10) (ap (λ (j : ℕ). drop j (fieldOf z ++ fields zs)) e ∙ drop-append-add (fieldOf z) (fields zs) (10 * i))
     ∙ part-of-fields zs i (rest-writable z zs h) (omega arith)
 
--- ---- numbers put one after the other
+-- ---- numbers from 0 on
 
--- one field, and those after it
-pub put-field : (out : List ℕ) (at : ℕ) (z : ℤ) (zs : List ℤ) → at ≤ length out → isWritable z ≡ true → put out at (fields (z ∷ zs)) ≡ put (put out at (fieldOf z)) (at + 10) (fields zs)
-unfolding fields
-put-field out at z zs h w =
-    sym (put-put out at (fieldOf z) (fields zs) h)
-    ∙ ap (λ (i : ℕ). put (put out at (fieldOf z)) (at + i) (fields zs)) (length-field z w)
+pub columns-in-turn : (columns : ℕ) → InTurn (λ (n : ℕ). justified columns (digits columns n)) (inColumns columns)
+unfolding inColumns
+columns-in-turn columns = record { none = refl; more = λ n ns. refl }
 
--- what is left to put from the i-th number on
-abbrev pub left : ℕ → List ℤ → List ℕ → ℕ → List ℕ
-left at zs out i = put out (at + 10 * i) (fields (drop i zs))
+-- ids in the columns of a line are fields
+pub fields-columns : (ns : List ℕ) → fields (map pos ns) ≡ inColumns width ns
+unfolding fields fieldOf written inColumns
+fields-columns [] = refl
+fields-columns (n ∷ ns) = ap (λ (t : List ℕ). justified width (digits width n) ++ t) (fields-columns ns)
 
-pub left-all : (at : ℕ) (zs : List ℤ) (out : List ℕ) → put out at (fields zs) ≡ left at zs out 0
-left-all at zs out = ap (λ (i : ℕ). put out i (fields zs)) (sym (add-zero at))
+module _ (columns : ℕ) (wide : shortDigits ≤ columns) where
+  -- a 16-bit number
+  pub short-columns : (n : ℕ) → n < 65536 → justified columns (digits columns n) ≡ numberIn columns 32 n
+  short-columns n h =
+      number-above columns n (omega arith) (omega (arith, pow-le-pow-right {n = 10} (lit< tt) {i = shortDigits} {j = columns} wide))
 
-pub left-none : (at : ℕ) (zs : List ℤ) (out : List ℕ) (i : ℕ) → length zs ≤ i → left at zs out i ≡ out
-unfolding fields
-left-none at zs out i h =
-    ap (λ (t : List ℤ). put out (at + 10 * i) (fields t)) (drop-of-length-le zs h) ∙ put-none out (at + 10 * i)
+  pub length-short : (n : ℕ) → n < 65536 → length (justified columns (digits columns n)) ≡ columns
+  length-short n h = ap length (short-columns n h) ∙ length-number columns 32 n (omega arith)
 
-pub left-next :
-    (at : ℕ) (zs : List ℤ) (out out′ : List ℕ) (i : ℕ)
-    → at + 10 * i ≤ length out
-    → i < length zs
-    → isWritable (nth zs i) ≡ true
-    → out′ ≡ put out (at + 10 * i) (fieldOf (nth zs i))
-    → left at zs out i ≡ left at zs out′ (i + 1)
-left-next at zs out out′ i h l w e =
-    let next : at + 10 * i + 10 ≡ at + 10 * (i + 1) = omega arith in
-    ap (λ (t : List ℤ). put out (at + 10 * i) (fields t)) (drop-cons zs i (pos 0) l)
-    ∙ put-field out (at + 10 * i) (nth zs i) (drop (suc i) zs) h w
-    ∙ ap (λ (t : List ℕ). put t (at + 10 * i + 10) (fields (drop (suc i) zs))) (sym e)
-    ∙ ap₂ (λ (p j : ℕ). put out′ p (fields (drop j zs))) next (sym (add-one i))
+  pub length-in-columns : (ns : List ℕ) → ((i : ℕ) → getD ns i 0 < 65536) → length (inColumns columns ns) ≡ columns * length ns
+  length-in-columns ns f = length-texts (columns-in-turn columns) columns 0 ns (λ i l. length-short (getD ns i 0) (f i))

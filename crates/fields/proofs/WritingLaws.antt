@@ -1,4 +1,4 @@
--- The ten columns of a number, as the code writes them, are its field. Of the bytes, 32 is a blank and 45 is "-".
+-- The columns of a number, as the code writes them, are its text at their end; a field is the case of ten. Of the bytes, 32 is a blank and 45 is "-".
 -- Assumes nothing.
 use mathlib.Core.Path.{_≡_, refl, sym, ap, _∙_}
 use mathlib.Core.Bool.{true}
@@ -9,24 +9,20 @@ use native.Mathlib.Nat.{pow-succ'}
 use native.Mathlib.Decide.{decLe, decLt}
 use native.Mathlib.Omega.{arith}
 use borrow.Author.Tests.{lt-ltb, le-ltb, ne-eqb}
-use lib.Dec.{lit≤}
+use lib.Dec.{lit<}
 use lib.IntN.{ℤ, pos, negsuc, natAbs, negℤ}
 use lib.ListN.{length, replicate, length-append, replicate-append-replicate}
 use lib.Signed.{leZ}
 use Rattle.ints.proofs.Parts.{up, down, le-true}
 use Rattle.ints.proofs.Truth.{and-left, and-right}
-use Rattle.fields.specs.Fields.{digit, digits, written, fieldOf, isWritable, greatest, leastSize}
-use Rattle.fields.specs.Writing.{leadAfter, columnsOf, tenColumns, leadOf}
+use Rattle.fields.specs.Fields.{digit, digits, written, justified, fieldOf, isWritable, greatest, leastSize}
+use Rattle.fields.specs.Writing.{leadAfter, columnsOf, numberIn, leadOf}
 
 pub length-columns : (k lead n : ℕ) → length (columnsOf k lead n) ≡ k
 unfolding columnsOf
 length-columns zero lead n = refl
 length-columns (suc k) lead n =
     length-append (columnsOf k (leadAfter lead n) (n / 10)) _ ∙ omega (arith, length-columns k (leadAfter lead n) (n / 10))
-
--- a text at the end of k columns
-abbrev justified : ℕ → List ℕ → List ℕ
-justified k text = replicate (k - length text) 32 ++ text
 
 justified-more : (k : ℕ) (text : List ℕ) (b : ℕ) → justified k text ++ b ∷ [] ≡ justified (suc k) (text ++ b ∷ [])
 justified-more k text b =
@@ -91,6 +87,10 @@ module _ (lead : ℕ) (before : List ℕ) (alone : (k : ℕ) → length before �
           let e : suc (suc k) - length before ≡ 1 = omega arith in
           absurd (more (rw e at l)))
 
+  number-text : (columns n : ℕ) → length before < columns → n < 10 ^ (columns - length before) → numberIn columns lead n ≡ justified columns (before ++ digits columns n)
+  number-text zero n h l = absurd (omega arith)
+  number-text (suc k) n h l = let e : suc k - 1 ≡ k = omega arith in rw e (columns-text k n (omega arith) l)
+
 minus-alone : (k : ℕ) → 1 ≤ k → columnsOf k 45 0 ≡ justified k (45 ∷ [])
 unfolding columnsOf
 minus-alone zero h = absurd (omega arith)
@@ -101,13 +101,17 @@ minus-alone (suc k) h =
 blank-alone : (k : ℕ) → 0 ≤ k → columnsOf k 32 0 ≡ justified k []
 blank-alone k h = let e : k - 0 ≡ k = omega arith in rw (e, append-nil, blanks k)
 
-pub field-above : (n : ℕ) → n ≤ greatest → fieldOf (pos n) ≡ tenColumns 32 n
-unfolding fieldOf written
-field-above n h = sym (columns-text 32 [] blank-alone 9 n (lit≤ tt) (omega arith))
+-- a number from 0 on
+pub number-above : (columns n : ℕ) → 0 < columns → n < 10 ^ columns → justified columns (digits columns n) ≡ numberIn columns 32 n
+number-above columns n h l = let e : columns - 0 ≡ columns = omega arith in sym (number-text 32 [] blank-alone columns n h (rw e l))
 
-pub field-below : (n : ℕ) → n < leastSize → fieldOf (negsuc n) ≡ tenColumns 45 (suc n)
+pub field-above : (n : ℕ) → n ≤ greatest → fieldOf (pos n) ≡ numberIn 10 32 n
 unfolding fieldOf written
-field-below n h = sym (columns-text 45 (45 ∷ []) minus-alone 9 (suc n) (lit≤ tt) (omega arith))
+field-above n h = number-above 10 n (lit< tt) (omega arith)
+
+pub field-below : (n : ℕ) → n < leastSize → fieldOf (negsuc n) ≡ numberIn 10 45 (suc n)
+unfolding fieldOf written
+field-below n h = sym (number-text 45 (45 ∷ []) minus-alone 10 (suc n) (lit< tt) (omega arith))
 
 -- what a number in range is at most, by its two parts
 pub in-range : (z : ℤ) → isWritable z ≡ true → (up z ≤ greatest + down z) × (down z ≤ leastSize + up z)
@@ -117,12 +121,12 @@ in-range z h =
     (omega (arith, le-true z (pos greatest) (and-right low high h)), omega (arith, le-true (negℤ (pos leastSize)) z (and-left low high h)))
 
 -- the field of a number in range is its columns
-pub field-columns : (z : ℤ) → isWritable z ≡ true → fieldOf z ≡ tenColumns (leadOf z) (natAbs z)
+pub field-columns : (z : ℤ) → isWritable z ≡ true → fieldOf z ≡ numberIn 10 (leadOf z) (natAbs z)
 field-columns (pos n) h = field-above n (omega (arith, in-range (pos n) h))
 field-columns (negsuc n) h = field-below n (omega (arith, in-range (negsuc n) h))
 
-length-ten : (lead n : ℕ) → length (tenColumns lead n) ≡ 10
-length-ten lead n = length-append (columnsOf 9 lead (n / 10)) _ ∙ omega (arith, length-columns 9 lead (n / 10))
+pub length-number : (columns lead n : ℕ) → 0 < columns → length (numberIn columns lead n) ≡ columns
+length-number columns lead n h = length-append (columnsOf (columns - 1) lead (n / 10)) _ ∙ omega (arith, length-columns (columns - 1) lead (n / 10))
 
 pub length-field : (z : ℤ) → isWritable z ≡ true → length (fieldOf z) ≡ 10
-length-field z h = ap length (field-columns z h) ∙ length-ten (leadOf z) (natAbs z)
+length-field z h = ap length (field-columns z h) ∙ length-number 10 (leadOf z) (natAbs z) (lit< tt)

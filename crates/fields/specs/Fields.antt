@@ -9,7 +9,7 @@ use lib.IntN.{ℤ, pos, negsuc, negℤ}
 use lib.ListN.{length, replicate}
 use Rattle.ints.specs.Whole.{between}
 
--- the columns of a number
+-- the columns of a number in a line
 abbrev pub width : ℕ
 width = 10
 
@@ -27,9 +27,12 @@ unfoldable pub written : ℤ → List ℕ
 written (pos n) = digits width n
 written (negsuc n) = code "-" ∷ digits width (suc n)
 
--- right-justified in its columns
+-- a text at the end of so many columns
+abbrev pub justified : ℕ → List ℕ → List ℕ
+justified columns text = replicate (columns - length text) (code " ") ++ text
+
 unfoldable pub fieldOf : ℤ → List ℕ
-fieldOf z = replicate (width - length (written z)) (code " ") ++ written z
+fieldOf z = justified width (written z)
 
 -- the greatest number that a line may have, and the size of the least
 abbrev pub greatest : ℕ

@@ -1,4 +1,4 @@
--- Several numbers, their fields one after the other.
+-- Several numbers one after the other: their fields, or numbers from 0 on in any number of columns.
 -- Assumes nothing.
 use mathlib.Core.Path.{_≡_}
 use mathlib.Core.Bool.{Bool, true}
@@ -7,7 +7,7 @@ use Prim.Native.Nat.{ℕ, _+_, _*_, _≤_}
 use lib.IntN.{ℤ, pos}
 use lib.ListN.{length, getD}
 use Rattle.ints.specs.Lists.{every}
-use Rattle.fields.specs.Fields.{width, fieldOf, isWritable}
+use Rattle.fields.specs.Fields.{width, digits, justified, fieldOf, isWritable}
 
 unfoldable pub fields : List ℤ → List ℕ
 fields [] = []
@@ -24,3 +24,17 @@ nth numbers i = getD numbers i (pos 0)
 pub record FieldsRoom (at : ℕ) (numbers : List ℤ) (out : List ℕ) : Type 0 where
   pub room : at + width * length numbers ≤ length out
   pub writable : areWritable numbers ≡ true
+
+-- numbers from 0 on, each in so many columns
+unfoldable pub inColumns : ℕ → List ℕ → List ℕ
+inColumns columns [] = []
+inColumns columns (n ∷ ns) = justified columns (digits columns n) ++ inColumns columns ns
+
+-- a 16-bit number has up to five digits
+abbrev pub shortDigits : ℕ
+shortDigits = 5
+
+-- columns for any 16-bit number, and room for them from a place on
+pub record ColumnsRoom (at columns : ℕ) (numbers out : List ℕ) : Type 0 where
+  pub wide : shortDigits ≤ columns
+  pub room : at + columns * length numbers ≤ length out

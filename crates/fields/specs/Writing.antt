@@ -24,14 +24,19 @@ unfoldable pub columnsOf : ℕ → ℕ → ℕ → List ℕ
 columnsOf zero lead n = []
 columnsOf (suc k) lead n = columnsOf k (leadAfter lead n) (n / 10) ++ byteOf lead n ∷ []
 
--- a number's columns: at least one digit
-abbrev pub tenColumns : ℕ → ℕ → List ℕ
-tenColumns lead n = columnsOf (width - 1) lead (n / 10) ++ digit (n % 10) ∷ []
+-- a number in so many columns: at least one digit
+abbrev pub numberIn : ℕ → ℕ → ℕ → List ℕ
+numberIn columns lead n = columnsOf (columns - 1) lead (n / 10) ++ digit (n % 10) ∷ []
 
 -- what stands before the digits of a number
 abbrev pub leadOf : ℤ → ℕ
 leadOf (pos n) = code " "
 leadOf (negsuc n) = code "-"
+
+-- a column for a digit, and room for all of them from a place on
+pub record NumberRoom (at columns : ℕ) (out : List ℕ) : Type 0 where
+  pub some : 1 ≤ columns
+  pub room : at + columns ≤ length out
 
 -- a number that a line may have, and room for its field from a place on
 pub record FieldRoom (at : ℕ) (z : ℤ) (out : List ℕ) : Type 0 where

@@ -1,4 +1,5 @@
-// One number of a line, right-justified in its columns: document 01, "Lines". Read, written, and several written one after the other.
+// One number of a line, right-justified in its columns: document 01, "Lines". Read, written, and several written one after the other,
+// these in any number of columns too.
 ghost use mathlib.Core.Path.{_≡_};
 ghost use Prim.Native.Nat.{_≤_};
 ghost use lib.IntN.{pos};
@@ -8,7 +9,7 @@ pub mod numbers;
 pub mod reading;
 pub mod writing;
 
-// The columns of a number.
+// The columns of a number in a line.
 pub const WIDTH: usize = 10;
 
 // The greatest number in a line, and the size of the least.

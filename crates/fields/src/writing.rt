@@ -1,12 +1,11 @@
 // One number written: its columns from the right to the left, in the place of some bytes whose rest is kept.
 ghost use mathlib.Core.Path.{_≡_};
 ghost use mathlib.Core.Bool.{true};
-ghost use Prim.Native.Nat.{_+_, _<_, _≤_};
-ghost use lib.ListN.{length};
+ghost use Prim.Native.Nat.{_<_};
 ghost use lib.IntN.{natAbs};
-ghost use Rattle.fields.specs.Fields.{width, digit, fieldOf, isWritable};
+ghost use Rattle.fields.specs.Fields.{digit, fieldOf, isWritable};
 ghost use Rattle.fields.specs.Put.{put};
-ghost use Rattle.fields.specs.Writing.{byteOf, leadAfter, tenColumns, leadOf, FieldRoom};
+ghost use Rattle.fields.specs.Writing.{byteOf, leadAfter, numberIn, leadOf, NumberRoom, FieldRoom};
 use crate::WIDTH;
 
 fn digit_of(d: usize) -> u8
@@ -28,12 +27,12 @@ fn lead_after(lead: u8, left: usize) -> u8
     if left == 0 { b' ' } else { lead }
 }
 
-// The ten columns of n from a place on, written from the right to the left, with `lead` before its digits.
-pub fn write_columns(out: &mut [u8], at: usize, lead: u8, n: usize)
-    requires { ⌜ at + width ≤ length (now out) ⌝ }
-    ensures { λ u. ⌜ now (out .exit) ≡ put (now (out .entry)) at (tenColumns lead n) ⌝ }
+// The columns of n from a place on, written from the right to the left, with `lead` before its digits.
+pub fn write_columns(out: &mut [u8], at: usize, columns: usize, lead: u8, n: usize)
+    requires { ⌜ NumberRoom at columns (now out) ⌝ }
+    ensures { λ u. ⌜ now (out .exit) ≡ put (now (out .entry)) at (numberIn columns lead n) ⌝ }
 {
-    let mut k = WIDTH - 1;
+    let mut k = columns - 1;
     let mut left = n / 10;
     let mut front = lead;
     out[at + k] = digit_of(n % 10);
@@ -62,5 +61,5 @@ pub fn write_field(out: &mut [u8], at: usize, z: i32)
     requires { ⌜ FieldRoom at z (now out) ⌝ }
     ensures { λ u. ⌜ now (out .exit) ≡ put (now (out .entry)) at (fieldOf z) ⌝ }
 {
-    write_columns(out, at, lead_of(z), size_of(z));
+    write_columns(out, at, WIDTH, lead_of(z), size_of(z));
 }

@@ -35,6 +35,17 @@ pub struct Done {
     pub filled: usize,
 }
 
+// A failed read or write is told under the program's name.
+fn read_calls(chunk: &mut [u8]) -> isize
+    ensures { λ r. ⌜ Moved (length (now (chunk .exit))) r ⌝ }
+{
+    read_chunk(chunk, b"replay: cannot read standard input")
+}
+
+fn write_answers(out: &[u8]) -> bool {
+    write_out(out, b"replay: cannot write standard output")
+}
+
 // The program opens at 0.
 fn begin(store: &mut [i32], table: &mut [i16])
     requires { ⌜ Lent (now store) (now table) ⌝ }
@@ -63,7 +74,7 @@ fn answer_chunk(
         let fed = feed(store, table, list, line, used, &chunk[from..], &mut out);
         used = fed.held;
         from += fed.taken;
-        if !write_out(&out[..fed.filled]) {
+        if !write_answers(&out[..fed.filled]) {
             return Turn {
                 got: chunk.len(),
                 taken: from,
@@ -123,7 +134,7 @@ fn read_once(
     ensures { λ r. ⌜ TakesRead (now (chunk .exit)) (now (store .entry)) (now (table .entry)) (now (store .exit)) (now (table .exit))
         (now (list .exit)) (now (line .entry)) (now (line .exit)) held r ⌝ }
 {
-    let got = read_chunk(chunk);
+    let got = read_calls(chunk);
     answer_read(store, table, list, line, held, chunk, got)
 }
 
@@ -184,7 +195,7 @@ fn replay(
         };
     }
     let filled = finish(store, table, list, line, stop.held, out);
-    write_out(&out[..filled]);
+    write_answers(&out[..filled]);
     Done {
         taken: stop.taken,
         held: 0,

@@ -1,5 +1,6 @@
 // Standard input read and standard output written. A call that was interrupted, or that would have to wait, is made again: it is neither the end of
-// the input nor a failure. A failure is told in one line on standard error, since the toolchain has no exit status.
+// the input nor a failure. A failure is told in one line on standard error, since the toolchain has no exit status: the program gives the line, and
+// the C library's words for the error end it.
 ghost use Prim.Native.Nat.{_≤_};
 ghost use lib.ListN.{length};
 ghost use Rattle.libc.specs.Io.{Moved};
@@ -16,18 +17,9 @@ fn tries_again() -> bool {
     error == libc::EINTR
 }
 
-// The C library's words for the error end the line.
-fn tell_read_failed() {
-    os::fail(b"replay: cannot read standard input");
-}
-
-fn tell_write_failed() {
-    os::fail(b"replay: cannot write standard output");
-}
-
 // What came of standard input: how many bytes stand at the start of the chunk, 0 at the end of the input, or less where the read failed. A proved
 // loop has to end: this many calls that give nothing take longer than any machine lasts.
-pub fn read_chunk(chunk: &mut [u8]) -> isize
+pub fn read_chunk(chunk: &mut [u8], failure: &[u8]) -> isize
     ensures { λ r. ⌜ Moved (length (now (chunk .exit))) r ⌝ }
 {
     let mut turns = u64::MAX;
@@ -37,7 +29,7 @@ pub fn read_chunk(chunk: &mut [u8]) -> isize
             return got;
         }
         if !tries_again() {
-            tell_read_failed();
+            os::fail(failure);
             return -1;
         }
         turns -= 1;
@@ -64,12 +56,12 @@ fn write_some(out: &[u8]) -> usize
 }
 
 // Whether all of it was written. A write may take a part: the next goes on behind it.
-pub fn write_out(out: &[u8]) -> bool {
+pub fn write_out(out: &[u8], failure: &[u8]) -> bool {
     let mut from = 0;
     while from < out.len() {
         let put = write_some(&out[from..]);
         if put == 0 {
-            tell_write_failed();
+            os::fail(failure);
             return false;
         }
         from += put;

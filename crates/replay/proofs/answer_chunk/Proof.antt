@@ -110,12 +110,12 @@ add-from c =
 array-share-prefix-out : tie.Need-array-share-prefix-out Inv-loop μ-loop
 array-share-prefix-out c = search needs
 
-slice-aggregate-write-out : tie.Need-slice-aggregate-write-out Inv-loop μ-loop
-slice-aggregate-write-out c =
+slice-aggregate-write-answers : tie.Need-slice-aggregate-write-answers Inv-loop μ-loop
+slice-aggregate-write-answers c =
     sym (length-take-le _ _ (omega (arith, feeds (fed (c .before)) .fits)))
 
-write-out-requires : tie.Need-write-out-requires Inv-loop μ-loop
-write-out-requires c κs = search needs
+write-answers-requires : tie.Need-write-answers-requires Inv-loop μ-loop
+write-answers-requires c κs = search needs
 
 same-length : tie.Need-same-length Inv-loop μ-loop
 same-length c = search needs
@@ -181,8 +181,8 @@ answer-chunk-spec =
     feed-requires
     add-from
     array-share-prefix-out
-    slice-aggregate-write-out
-    write-out-requires
+    slice-aggregate-write-answers
+    write-answers-requires
     same-length
     same-length-2
     same-length-3

@@ -22,7 +22,7 @@ ran c = let s = c .before .before .before in let t = s .before .before .before i
 abbrev tested : tie.After-finish-arg5 → tie.After-struct-known
 tested c = let s = c .before .before .before in s .before .before .before
 
-abbrev finished : tie.After-write-out-arg → tie.After-finish
+abbrev finished : tie.After-write-answers-arg → tie.After-finish
 finished c = let s = c .before .before .before in let t = s .before .before .before in t .before .before .before
 
 begin-requires : tie.Need-begin-requires
@@ -76,16 +76,16 @@ finish-requires c κs =
       room = omega (arith, start k .pre .room);
     }
 
-slice-reshare-prefix-write-out : tie.Need-slice-reshare-prefix-write-out
-slice-reshare-prefix-write-out c = search needs
+slice-reshare-prefix-write-answers : tie.Need-slice-reshare-prefix-write-answers
+slice-reshare-prefix-write-answers c = search needs
 
-slice-aggregate-write-out : tie.Need-slice-aggregate-write-out
-slice-aggregate-write-out c =
+slice-aggregate-write-answers : tie.Need-slice-aggregate-write-answers
+slice-aggregate-write-answers c =
     let f = finished c .finish in
     sym (length-take-le _ _ (omega (arith, f .ensures .fits)))
 
-write-out-requires : tie.Need-write-out-requires
-write-out-requires c κs = search needs
+write-answers-requires : tie.Need-write-answers-requires
+write-answers-requires c κs = search needs
 
 same-length-6 : tie.Need-same-length-6
 same-length-6 c = search needs
@@ -124,9 +124,9 @@ replay-spec =
     same-length-5
     returns
     finish-requires
-    slice-reshare-prefix-write-out
-    slice-aggregate-write-out
-    write-out-requires
+    slice-reshare-prefix-write-answers
+    slice-aggregate-write-answers
+    write-answers-requires
     same-length-6
     same-length-7
     same-length-8

@@ -9,10 +9,10 @@ use Rattle.streams.proofs.read_chunk.Statement.{statement}
 use Rattle.streams.proofs.read_chunk.Tie as tie
 
 abbrev Inv-loop : tie.InvT-loop
-Inv-loop chunk₀ turns₀ chunk turns = length chunk ≡ length chunk₀
+Inv-loop chunk₀ failure turns₀ chunk turns = length chunk ≡ length chunk₀
 
 abbrev μ-loop : tie.MeasureT-loop
-μ-loop chunk₀ turns₀ chunk turns = turns
+μ-loop chunk₀ failure turns₀ chunk turns = turns
 
 loop-holds : tie.Need-loop-holds Inv-loop μ-loop
 loop-holds c = search needs
@@ -31,8 +31,8 @@ returns c =
 tries-again-requires : tie.Need-tries-again-requires Inv-loop μ-loop
 tries-again-requires c κs = search needs
 
-tell-read-failed-requires : tie.Need-tell-read-failed-requires Inv-loop μ-loop
-tell-read-failed-requires c κs = search needs
+fail-requires : tie.Need-fail-requires Inv-loop μ-loop
+fail-requires c κs = search needs
 
 same-length-2 : tie.Need-same-length-2 Inv-loop μ-loop
 same-length-2 c = search needs
@@ -66,7 +66,7 @@ read-chunk-spec =
     same-length
     returns
     tries-again-requires
-    tell-read-failed-requires
+    fail-requires
     same-length-2
     returns-2
     sub-turns

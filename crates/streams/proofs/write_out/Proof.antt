@@ -7,10 +7,10 @@ use Rattle.streams.proofs.write_out.Statement.{statement}
 use Rattle.streams.proofs.write_out.Tie as tie
 
 abbrev Inv-loop : tie.InvT-loop
-Inv-loop out from₀ from = from ≤ length out
+Inv-loop out failure from₀ from = from ≤ length out
 
 abbrev μ-loop : tie.MeasureT-loop
-μ-loop out from₀ from = length out - from
+μ-loop out failure from₀ from = length out - from
 
 loop-holds : tie.Need-loop-holds Inv-loop μ-loop
 loop-holds c = search needs
@@ -27,8 +27,8 @@ part-write-some-end c = search needs
 write-some-requires : tie.Need-write-some-requires Inv-loop μ-loop
 write-some-requires c κs = search needs
 
-tell-write-failed-requires : tie.Need-tell-write-failed-requires Inv-loop μ-loop
-tell-write-failed-requires c κs = search needs
+fail-requires : tie.Need-fail-requires Inv-loop μ-loop
+fail-requires c κs = search needs
 
 returns : tie.Need-returns Inv-loop μ-loop
 returns c = search needs
@@ -56,7 +56,7 @@ write-out-spec =
     part-write-some-start
     part-write-some-end
     write-some-requires
-    tell-write-failed-requires
+    fail-requires
     returns
     add-from
     loop-less

@@ -4,24 +4,25 @@ use mathlib.Core.Path.{_≡_, refl, sym, ap, _∙_}
 use Prim.Native.Nat.{_+_, _-_, _*_, _≤_}
 use native.Mathlib.Omega.{arith}
 use denote.Ref.{now}
-use lib.IntN.{ℤ}
+use lib.IntN.{ℤ, pos}
 use lib.ListN.{length}
 use Rattle.fields.specs.Fields.{fieldOf, isWritable}
 use Rattle.fields.specs.Numbers.{fields, nth}
 use Rattle.fields.specs.Put.{put}
-use Rattle.fields.proofs.NumbersLaws.{writable-at, writable-back, left, left-all, left-next, left-none}
+use Rattle.fields.proofs.WritingLaws.{length-field}
+use Rattle.fields.proofs.NumbersLaws.{writable-at, writable-back, left, left-all, left-next, left-none, fields-in-turn}
 use Rattle.fields.proofs.numbers.write_numbers.Statement.{statement}
 use Rattle.fields.proofs.numbers.write_numbers.Tie as tie
 
 abbrev Inv-loop : tie.InvT-loop
 Inv-loop out₀ at numbers i₀ out i =
-    (i ≤ length numbers) × (length out ≡ length out₀) × (put out₀ at (fields numbers) ≡ left at numbers out i)
+    (i ≤ length numbers) × (length out ≡ length out₀) × (put out₀ at (fields numbers) ≡ left fields 10 at numbers out i)
 
 abbrev μ-loop : tie.MeasureT-loop
 μ-loop out₀ at numbers i₀ out i = length numbers - i
 
 loop-holds : tie.Need-loop-holds Inv-loop μ-loop
-loop-holds c = let a = c .before .args in (omega arith, refl, left-all (a .at) (now (a .numbers)) (now (a .out)))
+loop-holds c = let a = c .before .args in (omega arith, refl, left-all fields 10 (a .at) (now (a .numbers)) (now (a .out)))
 
 mul-write-field : tie.Need-mul-write-field Inv-loop μ-loop
 mul-write-field c = omega arith
@@ -61,7 +62,7 @@ loop-again c =
       omega arith,
       f .kept .0 ∙ h .inv .1,
       h .inv .2
-          ∙ left-next (a .args .at) zs (h .out) (f .last .0) (h .i) (omega arith) (omega arith) w
+          ∙ left-next fields-in-turn 10 (pos 0) (a .args .at) zs (h .out) (f .last .0) (h .i) (omega arith) (omega arith) (length-field (nth zs (h .i)) w)
           (f .ensures ∙ ap (λ (z : ℤ). put (h .out) at (fieldOf z)) (writable-back (nth zs (h .i)) w)),
     )
 
@@ -72,7 +73,7 @@ returns : tie.Need-returns Inv-loop μ-loop
 returns c =
     let h = c .before .loop in
     let a = c .before .before .before .args in
-    sym (h .inv .2 ∙ left-none (a .at) (now (a .numbers)) (h .out) (h .i) (omega arith))
+    sym (h .inv .2 ∙ left-none fields-in-turn 10 (a .at) (now (a .numbers)) (h .out) (h .i) (omega arith))
 
 pub write-numbers-spec : {M : Type 1} → statement M
 write-numbers-spec =

@@ -16,11 +16,11 @@ use Rattle.fields.proofs.writing.write_columns.Statement.{statement}
 use Rattle.fields.proofs.writing.write_columns.Tie as tie
 
 abbrev Inv-loop : tie.InvT-loop
-Inv-loop out₀ at lead n k₀ left₀ front₀ out k left front =
-    (k ≤ 9) × (length out ≡ length out₀) × (put out₀ at (columnsOf 9 front₀ left₀) ≡ put out at (columnsOf k front left))
+Inv-loop out₀ at columns lead n k₀ left₀ front₀ out k left front =
+    (k ≤ k₀) × (length out ≡ length out₀) × (put out₀ at (columnsOf k₀ front₀ left₀) ≡ put out at (columnsOf k front left))
 
 abbrev μ-loop : tie.MeasureT-loop
-μ-loop out₀ at lead n k₀ left₀ front₀ out k left front = k
+μ-loop out₀ at columns lead n k₀ left₀ front₀ out k left front = k
 
 -- columns and one more byte, which is set first
 more : (out : List ℕ) (at k lead n b : ℕ) → at + k < length out → put out at (columnsOf k lead n ++ b ∷ []) ≡ put (set out (at + k) b) at (columnsOf k lead n)
@@ -94,7 +94,7 @@ same-length : tie.Need-same-length Inv-loop μ-loop
 same-length c =
     let d = c .before .before in
     let a = d .before .before .args in
-    c .before .loop .inv .1 ∙ length-set (now (a .out)) (a .at + 9) (d .digit-of .result)
+    c .before .loop .inv .1 ∙ length-set (now (a .out)) (a .at + (a .columns - 1)) (d .digit-of .result)
 
 returns : tie.Need-returns Inv-loop μ-loop
 unfolding columnsOf
@@ -104,8 +104,8 @@ returns c =
     let a = d .before .before .args in
     let e : h .k ≡ 0 = omega arith in
     sym
-    (ap (λ (x : ℕ). put (now (a .out)) (a .at) (columnsOf 9 (a .lead) (a .n / 10) ++ x ∷ [])) (sym (d .digit-of .ensures))
-    ∙ more (now (a .out)) (a .at) 9 (a .lead) (a .n / 10) (d .digit-of .result) (omega arith)
+    (ap (λ (x : ℕ). put (now (a .out)) (a .at) (columnsOf (a .columns - 1) (a .lead) (a .n / 10) ++ x ∷ [])) (sym (d .digit-of .ensures))
+    ∙ more (now (a .out)) (a .at) (a .columns - 1) (a .lead) (a .n / 10) (d .digit-of .result) (omega arith)
     ∙ h .inv .2
     ∙ ap (λ (i : ℕ). put (h .out) (a .at) (columnsOf i (h .front) (h .left))) e
     ∙ put-none (h .out) (a .at))

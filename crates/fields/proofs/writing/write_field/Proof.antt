@@ -7,7 +7,7 @@ use lib.IntN.{natAbs}
 use mir.Syntax.{w32}
 use Rattle.ints.proofs.Machine.{held}
 use Rattle.fields.specs.Put.{put}
-use Rattle.fields.specs.Writing.{tenColumns, leadOf}
+use Rattle.fields.specs.Writing.{numberIn, leadOf}
 use Rattle.fields.proofs.WritingLaws.{field-columns}
 use Rattle.fields.proofs.writing.write_field.Statement.{statement}
 use Rattle.fields.proofs.writing.write_field.Tie as tie
@@ -32,7 +32,7 @@ returns c = let w = c .before .before in
     let e = held w32 (a .args .z) (a .fits .z .sfits) in
     w .write-columns .ensures
     ∙ ap (put (now (a .args .out)) (a .args .at))
-    (ap₂ tenColumns (l .lead-of .ensures ∙ ap leadOf e) (s .size-of .ensures ∙ ap natAbs e) ∙ sym (field-columns (a .args .z) (a .pre .writable)))
+    (ap₂ (numberIn 10) (l .lead-of .ensures ∙ ap leadOf e) (s .size-of .ensures ∙ ap natAbs e) ∙ sym (field-columns (a .args .z) (a .pre .writable)))
 
 pub write-field-spec : {M : Type 1} → statement M
 write-field-spec = tie.close (tie.spec lead-of-requires size-of-requires write-columns-requires same-length returns)
