@@ -81,7 +81,7 @@ left-all texts columns at xs out =
     ap (λ (i : ℕ). put out i (texts xs)) e
 
 module _ {A : Type 0} {text : A → List ℕ} {texts : List A → List ℕ} (turn : InTurn text texts) (columns : ℕ) where
-  length-texts : (d : A) (xs : List A) → ((i : ℕ) → i < length xs → length (text (getD xs i d)) ≡ columns) → length (texts xs) ≡ columns * length xs
+  pub length-texts : (d : A) (xs : List A) → ((i : ℕ) → i < length xs → length (text (getD xs i d)) ≡ columns) → length (texts xs) ≡ columns * length xs
   length-texts d [] f = ap length (turn .none) ∙ sym (mul-zero columns)
   length-texts d (x ∷ xs) f =
       ap length (turn .more x xs)

@@ -1,5 +1,5 @@
 pub mod CurveEveryLaws
-mod CurveTables
+pub mod CurveTables
 pub mod CurveLaws
 pub mod PlacesLaws
 pub mod Examples

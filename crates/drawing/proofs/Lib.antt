@@ -1,0 +1,5 @@
+pub mod SquaresLaws
+pub mod DrawnLaws
+pub mod ChartLaws
+pub mod Claims
+pub mod Examples

@@ -1,0 +1,5 @@
+pub mod Squares
+pub mod Curve
+pub mod Claims
+pub mod Parts
+pub mod Examples
