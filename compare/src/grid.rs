@@ -1,7 +1,7 @@
 //! The grid: columns and rows, cells, blocks of cells and the curve.
 //!
 //! A cell is numbered row by row here, for no answer shows a cell's number. The
-//! document's curve numbers stand in buffers alone.
+//! document's curve numbers stand in buffers and in the chart alone.
 
 use crate::limits::{CELLS, SIDE, WIDTH};
 

@@ -4,6 +4,7 @@
 //!     cargo run --release --offline -p compare -- --mutants
 //!     cargo run --release --offline -p compare -- --write FOLDER
 //!     cargo run --release --offline -p compare -- --ledger <CALLS
+//!     cargo run --release --offline -p compare -- --chart
 //!
 //! REPLAY is the program to compare; without it, `target/bin/replay` in the
 //! folder above this package. Every generated list goes through the program
@@ -16,8 +17,12 @@
 //! one with a wrong rule, for each of four wrong rules. `--write` writes the
 //! lists and the two long files into a folder, to look at or to run by hand.
 //! `--ledger` answers call lines from standard input, as the ledger does.
+//! `--chart` prints the curve table by the quadrant rule, as the chart room
+//! wants it: 32 lines of 32 numbers in 5 columns each, row 0 first.
 
 use plain_ledger::generate::{lists, many_asks, many_reports, List};
+use plain_ledger::grid::curve_number;
+use plain_ledger::limits::SIDE;
 use plain_ledger::methods::Wrong;
 use plain_ledger::stream::{answers, serve};
 use std::collections::BTreeMap;
@@ -44,6 +49,7 @@ fn main() {
             "--mutants" => return mutants(),
             "--write" => return write_lists(&arguments.next().unwrap_or_else(|| usage())),
             "--ledger" => return serve_ledger(),
+            "--chart" => return print_chart(),
             name if !name.starts_with('-') && program.is_none() => program = Some(name.into()),
             _ => usage(),
         }
@@ -70,7 +76,7 @@ fn fail(message: &str) -> ! {
 }
 
 fn usage() -> ! {
-    fail("usage: compare [--more] [REPLAY] | --mutants | --write FOLDER | --ledger")
+    fail("usage: compare [--more] [REPLAY] | --mutants | --write FOLDER | --ledger | --chart")
 }
 
 fn or_fail<T>(result: std::io::Result<T>, doing: &str) -> T {
@@ -81,6 +87,13 @@ fn or_fail<T>(result: std::io::Result<T>, doing: &str) -> T {
 fn serve_ledger() {
     let served = serve(&mut std::io::stdin().lock(), &mut std::io::stdout().lock());
     or_fail(served, "serving");
+}
+
+fn print_chart() {
+    for row in 0..SIDE {
+        let line: String = (0..SIDE).map(|column| format!("{:5}", curve_number(row * SIDE + column))).collect();
+        println!("{line}");
+    }
 }
 
 fn write_lists(folder: &str) {
