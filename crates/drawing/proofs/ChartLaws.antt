@@ -58,7 +58,7 @@ unfolding gridRows
 rows-length row zero = refl
 rows-length row (suc n) = ap suc (rows-length (suc row) n)
 
-pub row-at : (row n i : ℕ) → i < n → getD (gridRows row n) i [] ≡ rowNumbers (row + i) 0 side
+row-at : (row n i : ℕ) → i < n → getD (gridRows row n) i [] ≡ rowNumbers (row + i) 0 side
 unfolding gridRows
 row-at row zero i h = absurd (omega arith)
 row-at row (suc n) zero h = ap (λ (k : ℕ). rowNumbers k 0 side) (omega arith)
@@ -107,7 +107,7 @@ row-short row column (suc n) h l zero =
     omega (arith, number-below (cell column row) on)
 row-short row column (suc n) h l (suc i) = row-short row (suc column) n h (omega arith) i
 
-pub row-bytes : (row : ℕ) → row < side → length (chartLine (rowNumbers row 0 side)) ≡ lineBytes
+row-bytes : (row : ℕ) → row < side → length (chartLine (rowNumbers row 0 side)) ≡ lineBytes
 unfolding chartLine
 row-bytes row h =
     length-append (inColumns numberColumns (rowNumbers row 0 side)) (10 ∷ [])

@@ -23,7 +23,7 @@ module _ (square : Square) where
   next-order h = omega arith
 
   -- the side and the cells of a square that has quarters
-  pub two-halves : 0 < square .order → 2 ^ (square .order) ≡ half + half
+  two-halves : 0 < square .order → 2 ^ (square .order) ≡ half + half
   two-halves h = ap (λ (k : ℕ). 2 ^ k) (next-order h) ∙ twice (square .order - 1)
 
   pub four-parts : 0 < square .order → cellCount (square .order) ≡ 4 * cellCount (square .order - 1)

@@ -20,7 +20,7 @@ pub struct Square {
     pub first: usize,
 }
 
-// The side of a quarter.
+// The side of a quarter of this order. A shift would want a proof by hand.
 fn side_of(order: usize) -> usize
     requires { ⌜ order < Units.order ⌝ }
     ensures { λ r. ⌜ r ≡ 2 ^ order ⌝ }

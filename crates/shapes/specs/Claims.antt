@@ -15,7 +15,7 @@ pub record OnSquare (s : ℕ) (c : Cell) : Type 0 where
 abbrev pub cellCount : ℕ → ℕ
 cellCount k = 2 ^ k * 2 ^ k
 
--- shape A is the curve of document 01's quadrant rule: it visits each cell as the number that the rule gives, and no other cell
+-- shape A is the curve of document 01's quadrant rule: a cell's number by the rule is that of its visit, for every cell and for every number
 pub record IsQuadrantRule (k : ℕ) : Type 0 where
   pub cell-visited : (c : Cell) → OnSquare (2 ^ k) c → visit k ShapeA (numberAt k c) ≡ c
   pub number-visited : (n : ℕ) → n < cellCount k → numberAt k (visit k ShapeA n) ≡ n
@@ -23,7 +23,7 @@ pub record IsQuadrantRule (k : ℕ) : Type 0 where
 abbrev pub ShapeAIsQuadrantRule : Type 0
 ShapeAIsQuadrantRule = (k : ℕ) → IsQuadrantRule k
 
--- how the curve lies in a shape of side s: as it is, with column and row exchanged, and both from the high corner
+-- how the curve lies in a shape of side s: in A as it is, in B with column and row exchanged, in D counted from the high corner, in C both
 abbrev pub turned : Shape → ℕ → Cell → Cell
 turned ShapeA s c = c
 turned ShapeB s c = cell (c .row) (c .column)
