@@ -1,4 +1,4 @@
--- The chart's rows: where they stand in a curve table, how long their lines are, and the whole text in its bytes.
+-- The chart's rows: where they stand in a curve table, how long their lines are, and the whole text in its bytes. Of the bytes, 10 is the newline.
 -- Assumes nothing.
 use mathlib.Core.Path.{_≡_, refl, sym, ap, ap₂, _∙_}
 use mathlib.Core.List.{List, [], _∷_, _++_, append-nil}
@@ -14,7 +14,7 @@ use Rattle.grid.specs.Curve.{cell, IsCurve}
 use Rattle.grid.proofs.CurveLaws.{number-below}
 use Rattle.fields.specs.Numbers.{inColumns}
 use Rattle.fields.specs.Put.{put}
-use Rattle.fields.proofs.PutLaws.{put-none, put-last, put-put, put-front}
+use Rattle.fields.proofs.PutLaws.{put-byte, put-put, put-front}
 use Rattle.fields.proofs.NumbersLaws.{InTurn, length-texts, length-in-columns}
 use Rattle.drawing.specs.Chart.{numberColumns, lineBytes, chartBytes, rowNumbers, gridRows, chartLine, chartLines, chartText}
 
@@ -72,11 +72,6 @@ pub lines-in-turn : InTurn chartLine chartLines
 unfolding chartLines
 lines-in-turn = record { none = refl; more = λ numbers rows. refl }
 
--- one byte put is one byte set
-byte-put : (out : List ℕ) (at b : ℕ) → at < length out → put out at (b ∷ []) ≡ set out at b
-byte-put out at b h =
-    put-last out at [] b (rw (add-zero at) h) ∙ put-none (set out (at + 0) b) at ∙ ap (λ (i : ℕ). set out i b) (add-zero at)
-
 -- a line whose numbers are put first, and then its newline
 pub line-put :
     (out out′ numbers : List ℕ) (at : ℕ)
@@ -93,7 +88,7 @@ line-put out out′ numbers at long small room same is =
     let end : at + lineBytes - 1 ≡ at + length text = omega arith in
     let last = at + length text in
     ap (λ (i : ℕ). set out′ i 10) end
-    ∙ sym (byte-put out′ last 10 (omega arith))
+    ∙ sym (put-byte out′ last 10 (omega arith))
     ∙ ap (λ (t : List ℕ). put t last (10 ∷ [])) is
     ∙ put-put out at text (10 ∷ []) (omega arith)
 

@@ -6,12 +6,12 @@ use Prim.Native.Nat.{ℕ}
 use lib.ListN.{length}
 use Rattle.grid.specs.Units.{cells}
 use Rattle.grid.proofs.CurveTables as Tables
-use Rattle.grid.proofs.CurveLaws.{table-number}
+use Rattle.grid.proofs.CurveLaws.{table-number, one-curve}
 use Rattle.shapes.specs.Shapes.{ShapeA}
 use Rattle.drawing.specs.Squares.{gridSquare}
 use Rattle.drawing.specs.Drawn.{drawn}
 use Rattle.drawing.specs.Claims.{ConstantTableIsDrawn}
-use Rattle.drawing.proofs.DrawnLaws.{whole-fits, drawn-long, drawn-is-curve, one-curve}
+use Rattle.drawing.proofs.DrawnLaws.{whole-fits, drawn-long, drawn-is-curve}
 
 pub constant-table-is-drawn : ConstantTableIsDrawn
 constant-table-is-drawn constant before long curve long′ =

@@ -4,13 +4,13 @@
 use mathlib.Core.Path.{_≡_, refl, sym, ap, ap₂, _∙_}
 use mathlib.Core.List.{List}
 use mathlib.Core.Logic.{dite}
-use Prim.Native.Nat.{ℕ, zero, suc, _+_, _-_, _*_, _/_, _%_, _^_, _≤_, _<_}
+use Prim.Native.Nat.{ℕ, zero, suc, _+_, _-_, _*_, _^_, _≤_, _<_}
 use native.Mathlib.Nat.{add-zero, zero-add, add-suc}
 use native.Mathlib.Decide.{ℕ-discrete}
 use native.Mathlib.Omega.{arith}
 use lib.ListN.{length, getD, set, length-set}
 use lib.Dec.{lit≤}
-use lib.Seq.{getD-set-same, getD-set-other, ext-getD}
+use lib.Seq.{getD-set-same, getD-set-other}
 use Rattle.grid.specs.Units.{order, side, cells}
 use Rattle.grid.specs.Places.{OnGrid}
 use Rattle.grid.specs.Curve.{cell, curveNumber, IsCurve}
@@ -182,13 +182,3 @@ drawn-is-curve blank long = record {
       ∙ drawn-at gridSquare whole-fits ShapeA blank long n (number-below c on)
       ∙ zero-add n;
 }
-
--- and two curve tables are the same
-pub one-curve : (a b : List ℕ) → length a ≡ cells → length b ≡ cells → IsCurve a → IsCurve b → a ≡ b
-one-curve a b long long′ p q =
-    ext-getD 0 a b (long ∙ sym long′)
-    (λ i h.
-    let c = cell (i % side) (i / side) in
-    let on : OnGrid c = record { column-on = omega arith; row-on = omega arith } in
-    let place : i ≡ c .row * side + c .column = omega arith in
-    ap (λ (k : ℕ). getD a k 0) place ∙ p .numbered c on ∙ sym (q .numbered c on) ∙ ap (λ (k : ℕ). getD b k 0) (sym place))

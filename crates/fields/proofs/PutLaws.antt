@@ -1,4 +1,4 @@
--- The laws of a text put into bytes: its last byte apart, one text after another, and in front.
+-- The laws of a text put into bytes: its last byte apart, one text after another, in front, and a single byte.
 -- Assumes nothing.
 use mathlib.Core.Path.{_≡_, sym, ap, ap₂, _∙_}
 use mathlib.Core.List.{List, [], _∷_, _++_, append-assoc, append-nil}
@@ -54,3 +54,8 @@ module _ (out : List ℕ) (at : ℕ) where
 pub put-front : (out text : List ℕ) → put out 0 text ≡ text ++ drop (length text) out
 unfolding put
 put-front out text = ap (λ (i : ℕ). text ++ drop i out) (zero-add (length text))
+
+-- one byte put is one byte set
+pub put-byte : (out : List ℕ) (at b : ℕ) → at < length out → put out at (b ∷ []) ≡ set out at b
+put-byte out at b h =
+    put-last out at [] b (rw (add-zero at) h) ∙ put-none (set out (at + 0) b) at ∙ ap (λ (i : ℕ). set out i b) (add-zero at)

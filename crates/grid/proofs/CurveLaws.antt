@@ -3,16 +3,18 @@
 -- Assumes nothing.
 use mathlib.Core.Path.{_≡_, sym, ap, _∙_}
 use mathlib.Core.Bool.{Bool, true, false, _&&_, _||_}
+use mathlib.Core.List.{List}
 use mathlib.Core.Logic.{_⊎_, inl, inr, ⊎-elim}
 use Prim.Native.Nat.{ℕ, suc, _+_, _*_, _/_, _%_, _<_}
 use native.Mathlib.Nat.{zero-add}
 use native.Mathlib.Numerals.{add-one}
 use native.Mathlib.Omega.{arith}
 use lib.Dec.{T, eqb, eqb→eq, ltb, ltb→lt}
-use lib.ListN.{getD}
+use lib.ListN.{length, getD}
+use lib.Seq.{ext-getD}
 use Rattle.grid.specs.Units.{side, cells}
 use Rattle.grid.specs.Places.{sameCell, OnGrid}
-use Rattle.grid.specs.Curve.{cell, numberAt, cellAt, curveNumber, cellOfNumber, apart}
+use Rattle.grid.specs.Curve.{cell, numberAt, cellAt, curveNumber, cellOfNumber, IsCurve, apart}
 use Rattle.grid.specs.declared.Cell.{Cell}
 use Rattle.grid.proofs.PlacesLaws.{one-cell}
 use Rattle.grid.proofs.CurveEveryLaws.{left, right, at-place}
@@ -139,3 +141,13 @@ neighbours-share-a-side n h =
     ⊎-elim (λ t. absurd (let e : n ≡ 1023 = eqb→eq n 1023 t in omega arith))
     (λ t. rw add-one (eqb→eq _ 1 t))
     (either (eqb n 1023) _ (joined-here n (omega arith)))
+
+-- two curve tables are the same
+pub one-curve : (a b : List ℕ) → length a ≡ cells → length b ≡ cells → IsCurve a → IsCurve b → a ≡ b
+one-curve a b long long′ p q =
+    ext-getD 0 a b (long ∙ sym long′)
+    (λ i h.
+    let c = cellOfPlace i in
+    let on : OnGrid c = record { column-on = omega arith; row-on = omega arith } in
+    let place : i ≡ placeOf c = omega arith in
+    ap (λ (k : ℕ). getD a k 0) place ∙ p .numbered c on ∙ sym (q .numbered c on) ∙ ap (λ (k : ℕ). getD b k 0) (sym place))

@@ -7,22 +7,23 @@ use native.Mathlib.Omega.{arith}
 use borrow.Author.Needs.{needs}
 use denote.Ref.{now}
 use lib.ListN.{length}
+use Rattle.grid.specs.Units.{side}
 use Rattle.fields.specs.Put.{put}
 use Rattle.fields.proofs.NumbersLaws.{left, left-all, left-next, left-none}
-use Rattle.drawing.specs.Chart.{gridRows, chartLine, chartLines, chartText}
+use Rattle.drawing.specs.Chart.{lineBytes, gridRows, chartLine, chartLines, chartText}
 use Rattle.drawing.proofs.ChartLaws.{row-part, row-length, rows-length, lines-in-turn, line-at, line-bytes, text-alone}
 use Rattle.drawing.proofs.chart.write_lines.Statement.{statement}
 use Rattle.drawing.proofs.chart.write_lines.Tie as tie
 
 abbrev Inv-loop : tie.InvT-loop
 Inv-loop out₀ numbers row₀ out row =
-    (row ≤ 32) × (length out ≡ length out₀) × (put out₀ 0 chartText ≡ left chartLines 161 0 (gridRows 0 32) out row)
+    (row ≤ side) × (length out ≡ length out₀) × (put out₀ 0 chartText ≡ left chartLines lineBytes 0 (gridRows 0 side) out row)
 
 abbrev μ-loop : tie.MeasureT-loop
-μ-loop out₀ numbers row₀ out row = 32 - row
+μ-loop out₀ numbers row₀ out row = side - row
 
 loop-holds : tie.Need-loop-holds Inv-loop μ-loop
-loop-holds c = (omega arith, refl, left-all chartLines 161 0 (gridRows 0 32) (now (c .before .before .args .out)))
+loop-holds c = (omega arith, refl, left-all chartLines lineBytes 0 (gridRows 0 side) (now (c .before .before .args .out)))
 
 mul-write-line : tie.Need-mul-write-line Inv-loop μ-loop
 mul-write-line c = omega arith
@@ -53,7 +54,7 @@ write-line-requires c κs =
     let l = c .before .before .before in
     let a = l .before .before .before in
     let part = row-part (now (a .args .numbers)) (l .loop .row) (a .pre .long) (a .pre .curve) (omega arith) in
-    record { long = ap length part ∙ row-length (l .loop .row) 0 32; room = omega arith }
+    record { long = ap length part ∙ row-length (l .loop .row) 0 side; room = omega arith }
 
 add-row : tie.Need-add-row Inv-loop μ-loop
 add-row c = omega arith
@@ -69,11 +70,11 @@ loop-again c =
     let row = h .row in
     let a = l .before .before .before in
     let part = row-part (now (a .args .numbers)) row (a .pre .long) (a .pre .curve) (omega arith) in
-    let at : row * 161 ≡ 0 + 161 * row = omega arith in (
+    let at : row * lineBytes ≡ 0 + lineBytes * row = omega arith in (
       omega arith,
       w .write-line .kept .0 ∙ h .inv .1,
       h .inv .2
-          ∙ left-next lines-in-turn 161 [] 0 (gridRows 0 32) (h .out) (w .write-line .last .0) row (omega arith) (omega (arith, rows-length 0 32))
+          ∙ left-next lines-in-turn lineBytes [] 0 (gridRows 0 side) (h .out) (w .write-line .last .0) row (omega arith) (omega (arith, rows-length 0 side))
           (line-bytes row (omega arith))
           (w .write-line .ensures ∙ ap₂ (λ (i : ℕ) (numbers : List ℕ). put (h .out) i (chartLine numbers)) at (part ∙ sym (line-at row (omega arith)))),
     )
@@ -85,7 +86,7 @@ returns : tie.Need-returns Inv-loop μ-loop
 returns c =
     let h = c .before .loop in
     let a = c .before .before .before .before in
-    sym (sym (text-alone (now (a .args .out)) (a .pre .room)) ∙ h .inv .2 ∙ left-none lines-in-turn 161 0 (gridRows 0 32) (h .out) (h .row) (omega (arith, rows-length 0 32)))
+    sym (sym (text-alone (now (a .args .out)) (a .pre .room)) ∙ h .inv .2 ∙ left-none lines-in-turn lineBytes 0 (gridRows 0 side) (h .out) (h .row) (omega (arith, rows-length 0 side)))
 
 pub write-lines-spec : {M : Type 1} → statement M
 write-lines-spec =
