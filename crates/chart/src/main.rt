@@ -5,7 +5,7 @@ use drawing::CHART_BYTES;
 use drawing::write_chart;
 use streams::write_out;
 
-// What is handed to standard output is the chart's text, and nothing else.
+// It is lent the chart's text. That these bytes go to standard output has no definition; the one call below does it.
 fn print(text: &[u8; CHART_BYTES])
     requires { ⌜ now text ≡ chartText ⌝ }
 {

@@ -1,15 +1,14 @@
 -- The quarters of a square of the grid: they lie in it, their order is one less, and their numbers are in its numbers.
 -- Assumes nothing.
 use mathlib.Core.Path.{_≡_, ap, _∙_}
-use Prim.Native.Nat.{ℕ, suc, _+_, _-_, _*_, _^_, _≤_, _<_}
-use native.Mathlib.Nat.{mul-le-mul}
+use Prim.Native.Nat.{ℕ, suc, _+_, _-_, _*_, _^_, _<_}
 use native.Mathlib.Omega.{arith}
 use lib.Dec.{T, ltb, ltb→lt}
 use Rattle.grid.specs.Units.{order}
 use Rattle.grid.specs.Curve.{cell}
 use Rattle.grid.specs.declared.Cell.{Cell}
 use Rattle.shapes.specs.Claims.{cellCount}
-use Rattle.shapes.proofs.Squares.{twice, four-quarters}
+use Rattle.shapes.proofs.Squares.{twice, four-quarters, part-within}
 use Rattle.drawing.specs.Squares.{quarterOf}
 use Rattle.drawing.specs.Needs.{Fits, Cuts}
 use Rattle.drawing.specs.declared.squares.Square.{Square}
@@ -29,13 +28,6 @@ module _ (square : Square) where
   pub four-parts : 0 < square .order → cellCount (square .order) ≡ 4 * cellCount (square .order - 1)
   four-parts h = ap cellCount (next-order h) ∙ four-quarters (square .order - 1)
 
-  -- one of two halves, and one of four parts
-  half-of : (i s : ℕ) → i < 2 → i * s + s ≤ s + s
-  half-of i s h = let one : i ≤ 1 = omega arith in let same : s ≤ s = omega arith in omega (arith, mul-le-mul one same)
-
-  part-of : (i z : ℕ) → i < 4 → i * z + z ≤ 4 * z
-  part-of i z h = let three : i ≤ 3 = omega arith in let same : z ≤ z = omega arith in omega (arith, mul-le-mul three same)
-
   module _ (part : ℕ) (corner : Cell) where
     pub quarter-fits : Cuts square part corner → Fits (quarterOf square part corner)
     quarter-fits cuts =
@@ -45,9 +37,9 @@ module _ (square : Square) where
         let four = four-parts (cuts .more) in
         record {
           orders = omega (arith, f .orders);
-          columns = omega (arith, f .columns, half-of (corner .column) s (cuts .right-of));
-          rows = omega (arith, f .rows, half-of (corner .row) s (cuts .upper-of));
-          numbers = omega (arith, f .numbers, part-of part (s * s) (cuts .part-of));
+          columns = omega (arith, f .columns, part-within (corner .column) 2 s (cuts .right-of));
+          rows = omega (arith, f .rows, part-within (corner .row) 2 s (cuts .upper-of));
+          numbers = omega (arith, f .numbers, part-within part 4 (s * s) (cuts .part-of));
         }
 
 -- a square of an order above 0 has its quarters

@@ -4,11 +4,12 @@
 use mathlib.Core.Path.{_≡_, refl, sym, ap, ap₂, _∙_}
 use Prim.Native.Nat.{ℕ, zero, suc, _+_, _-_, _/_, _%_, _^_}
 use native.Mathlib.Omega.{arith}
-use Rattle.grid.specs.Curve.{fourth, after, entered, inWhole, numberAt, cellAt, apart}
+use Rattle.grid.specs.Curve.{after, entered, inWhole, numberAt, cellAt, apart}
 use Rattle.grid.specs.declared.Cell.{Cell}
 use Rattle.grid.proofs.PlacesLaws.{one-cell}
 use Rattle.shapes.specs.Shapes.{Shape, ShapeA, ShapeB, ShapeC, ShapeD, partOf, placedAt, visit}
 use Rattle.shapes.specs.Claims.{OnSquare, cellCount, ShapeAIsQuadrantRule, turned, ShapesAreTurned, VisitedOnce, OneVisitPerCell, NeighboursShareASide}
+use Rattle.shapes.proofs.Turns.{turned-on, turned-back, apart-turned}
 use Rattle.shapes.proofs.Squares.{twice}
 use Rattle.shapes.proofs.Curve as Curve
 
@@ -54,26 +55,6 @@ shape-a-is-quadrant-rule k = record {
   cell-visited = λ c on. shapes-are-turned k ShapeA (numberAt k c) ∙ Curve.cell-of-its-number k c on;
   number-visited = λ n h. ap (numberAt k) (shapes-are-turned k ShapeA n) ∙ Curve.number-of-its-cell k n h;
 }
-
--- ---- a turn
-
-turned-on : (f : Shape) (s : ℕ) {c : Cell} → OnSquare s c → OnSquare s (turned f s c)
-turned-on ShapeA s o = o
-turned-on ShapeB s o = record { column-on = o .row-on; row-on = o .column-on }
-turned-on ShapeC s o = let x = o .column-on in record { column-on = omega arith; row-on = omega arith }
-turned-on ShapeD s o = let x = o .column-on in record { column-on = omega arith; row-on = omega arith }
-
-turned-back : (f : Shape) (s : ℕ) {c : Cell} → OnSquare s c → turned f s (turned f s c) ≡ c
-turned-back ShapeA s o = refl
-turned-back ShapeB s o = refl
-turned-back ShapeC s o = let x = o .column-on in let y = o .row-on in one-cell (omega arith) (omega arith)
-turned-back ShapeD s o = let x = o .column-on in let y = o .row-on in one-cell (omega arith) (omega arith)
-
-apart-turned : (f : Shape) (s : ℕ) {a b : Cell} → OnSquare s a → OnSquare s b → apart (turned f s a) (turned f s b) ≡ apart a b
-apart-turned ShapeA s o p = refl
-apart-turned ShapeB s {a} {b} o p = Curve.apart-exchanged a b
-apart-turned ShapeC s {a} {b} o p = Curve.apart-entered fourth s o p
-apart-turned ShapeD s o p = Curve.apart-mirrored s o p
 
 -- ---- what holds of the curve holds of each shape
 

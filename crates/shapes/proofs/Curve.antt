@@ -4,7 +4,7 @@
 use mathlib.Core.Path.{_≡_, refl, sym, ap, ap₂, _∙_}
 use mathlib.Core.Logic.{dite}
 use Prim.Native.Nat.{ℕ, zero, suc, _+_, _-_, _*_, _/_, _%_, _^_, _<_}
-use native.Mathlib.Nat.{mod-lt, suc-mul}
+use native.Mathlib.Nat.{mod-lt, suc-mul, lt-of-mul-lt-mul-right}
 use native.Mathlib.Decide.{decLt}
 use native.Mathlib.Omega.{arith}
 use lib.Pow.{pow-pos}
@@ -13,13 +13,8 @@ use Rattle.grid.specs.Curve.{Quadrant, first, second, third, fourth, cell, befo
 use Rattle.grid.specs.declared.Cell.{Cell}
 use Rattle.grid.proofs.PlacesLaws.{one-cell}
 use Rattle.shapes.specs.Claims.{OnSquare, cellCount}
-use Rattle.shapes.proofs.Squares.{square-above-0, twice, four-quarters, quarters-below, quarter-below, quarter-and-rest, quarter-is, rest-is}
-
-entered-on : (q : Quadrant) (s : ℕ) {c : Cell} → OnSquare s c → OnSquare s (entered q s c)
-entered-on first s o = record { column-on = o .row-on; row-on = o .column-on }
-entered-on second s o = o
-entered-on third s o = o
-entered-on fourth s o = let x = o .column-on in record { column-on = omega arith; row-on = omega arith }
+use Rattle.shapes.proofs.Turns.{entered-on, entered-back, sides, apart-entered}
+use Rattle.shapes.proofs.Squares.{square-above-0, twice, four-quarters, quarter-below, quarter-and-rest, quarter-is, rest-is}
 
 whole-on : (q : Quadrant) (s : ℕ) {c : Cell} → OnSquare s c → OnSquare (s + s) (inWhole q s c)
 whole-on first s o = let x = o .column-on in let y = o .row-on in record { column-on = omega arith; row-on = omega arith }
@@ -34,13 +29,6 @@ cell-on zero n = record { column-on = omega arith; row-on = omega arith }
 cell-on (suc k) n =
     let s = 2 ^ k in
     rw (twice k) (whole-on (after (n / (s * s))) s (entered-on (after (n / (s * s))) s (cell-on k (n % (s * s)))))
-
--- done twice it gives back the place
-twice-entered : (q : Quadrant) (s : ℕ) {c : Cell} → OnSquare s c → entered q s (entered q s c) ≡ c
-twice-entered first s o = refl
-twice-entered second s o = refl
-twice-entered third s o = refl
-twice-entered fourth s o = let x = o .column-on in let y = o .row-on in one-cell (omega arith) (omega arith)
 
 -- the number of a place of a quadrant
 number-in : (q : Quadrant) (k : ℕ) (e : Cell) → OnSquare (2 ^ k) e → numberAt (suc k) (inWhole q (2 ^ k) e) ≡ before q * cellCount k + numberAt k (entered q (2 ^ k) e)
@@ -84,7 +72,7 @@ number-of-its-cell (suc k) n h =
     let p = square-above-0 k in
     let j = quarter-below n z (rw (four-quarters k) at h) in
     number-in q k (entered q s e) (entered-on q s on)
-    ∙ ap (λ (c : Cell). before q * z + numberAt k c) (twice-entered q s on)
+    ∙ ap (λ (c : Cell). before q * z + numberAt k c) (entered-back q s on)
     ∙ ap₂ (λ (a b : ℕ). a * z + b) (before-after (n / z) j) (number-of-its-cell k (n % z) (mod-lt n p))
     ∙ sym (quarter-and-rest n z)
 
@@ -147,7 +135,7 @@ cell-of-its-number (suc k) c o =
     ap (cellAt (suc k)) (ap (numberAt (suc k)) (t .is) ∙ number-in (t .of) k (t .place) (t .on))
     ∙ cell-in k (t .of) (numberAt k i) (number-below k i on)
     ∙ ap (λ (x : Cell). inWhole (t .of) s (entered (t .of) s x)) (cell-of-its-number k i on)
-    ∙ ap (inWhole (t .of) s) (twice-entered (t .of) s (t .on))
+    ∙ ap (inWhole (t .of) s) (entered-back (t .of) s (t .on))
     ∙ sym (t .is)
 
 -- ---- the ends of the curve
@@ -177,38 +165,9 @@ ends (suc k) =
 
 -- ---- neighbours
 
--- the two ways in which a difference is kept
+-- a difference is kept by a shift
 shifted : (s a b : ℕ) → (s + a) - (s + b) ≡ a - b
 shifted s a b = omega arith
-
-mirrored : (s a b : ℕ) → a < s → b < s → (s - 1 - a) - (s - 1 - b) ≡ b - a
-mirrored s a b h k = omega arith
-
-sides : {a b c d a′ b′ c′ d′ : ℕ} → a ≡ a′ → b ≡ b′ → c ≡ c′ → d ≡ d′ → a + b + (c + d) ≡ a′ + b′ + (c′ + d′)
-sides p q r s = λ i. p i + q i + (r i + s i)
-
--- columns and rows exchanged, and exchanged and mirrored
-pub apart-exchanged : (a b : Cell) → apart (cell (a .row) (a .column)) (cell (b .row) (b .column)) ≡ apart a b
-apart-exchanged a b = exchanged (a .column - b .column) (b .column - a .column) (a .row - b .row) (b .row - a .row)
-  where
-    exchanged : (w x y z : ℕ) → y + z + (w + x) ≡ w + x + (y + z)
-    exchanged w x y z = omega arith
-
-pub apart-mirrored : (s : ℕ) {a b : Cell} → OnSquare s a → OnSquare s b → apart (cell (s - 1 - a .column) (s - 1 - a .row)) (cell (s - 1 - b .column) (s - 1 - b .row)) ≡ apart a b
-apart-mirrored s {a} {b} o p =
-    sides (mirrored s (a .column) (b .column) (o .column-on) (p .column-on)) (mirrored s (b .column) (a .column) (p .column-on) (o .column-on))
-    (mirrored s (a .row) (b .row) (o .row-on) (p .row-on)) (mirrored s (b .row) (a .row) (p .row-on) (o .row-on))
-    ∙ exchanged (a .column - b .column) (b .column - a .column) (a .row - b .row) (b .row - a .row)
-  where
-    exchanged : (w x y z : ℕ) → x + w + (z + y) ≡ w + x + (y + z)
-    exchanged w x y z = omega arith
-
-pub apart-entered : (q : Quadrant) (s : ℕ) {a b : Cell} → OnSquare s a → OnSquare s b → apart (entered q s a) (entered q s b) ≡ apart a b
-apart-entered first s {a} {b} o p = apart-exchanged a b
-apart-entered second s o p = refl
-apart-entered third s o p = refl
-apart-entered fourth s {a} {b} o p =
-    apart-exchanged (cell (s - 1 - a .column) (s - 1 - a .row)) (cell (s - 1 - b .column) (s - 1 - b .row)) ∙ apart-mirrored s o p
 
 apart-whole : (q : Quadrant) (s : ℕ) (a b : Cell) → apart (inWhole q s a) (inWhole q s b) ≡ apart a b
 apart-whole first s a b = refl
@@ -273,4 +232,4 @@ neighbours-share-a-side (suc k) n h =
     let up = suc-mul j z in
     let next : n + 1 ≡ suc j * z + 0 = omega arith in
     ap₂ (λ (a b : ℕ). apart (cellAt (suc k) a) (cellAt (suc k) b)) here next
-    ∙ across k j (let b : suc j < 4 = quarters-below (suc j) z (omega arith) in omega arith))
+    ∙ across k j (let b : suc j < 4 = lt-of-mul-lt-mul-right z (let i : suc j * z < 4 * z = omega arith in i) in omega arith))

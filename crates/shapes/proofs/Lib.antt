@@ -1,4 +1,5 @@
 pub mod Squares
+pub mod Turns
 pub mod Curve
 pub mod Claims
 pub mod Parts

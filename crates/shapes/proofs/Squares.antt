@@ -1,10 +1,8 @@
 -- A square of side 2 ^ (k + 1) and its four quarters: sides, how many cells, and which quarter a number of the curve lies in.
 -- Assumes nothing.
 use mathlib.Core.Path.{_≡_, _∙_}
-use mathlib.Core.Logic.{dite}
 use Prim.Native.Nat.{ℕ, suc, _+_, _*_, _/_, _%_, _^_, _≤_, _<_}
-use native.Mathlib.Nat.{div-add-mod, mul-le-mul, mul-comm, add-mul, mul-add, div-eq-of-lt, mod-eq-of-lt, mul-add-div-right, mul-add-mod-self-right}
-use native.Mathlib.Decide.{decLt}
+use native.Mathlib.Nat.{div-add-mod, suc-mul, mul-le-mul-right, mul-le-mul, mul-comm, add-mul, mul-add, div-eq-of-lt, mod-eq-of-lt, lt-of-mul-lt-mul-right, mul-add-div-right, mul-add-mod-self-right}
 use native.Mathlib.Omega.{arith}
 use lib.Pow.{pow-pos}
 use Rattle.shapes.specs.Claims.{cellCount}
@@ -27,17 +25,11 @@ four-quarters k =
 pub quarter-and-rest : (n z : ℕ) → n ≡ n / z * z + n % z
 quarter-and-rest n z = let e = div-add-mod n z in omega (arith, mul-comm z (n / z))
 
--- j whole quarters leave fewer than four
-pub quarters-below : (j z : ℕ) → j * z < 4 * z → j < 4
-quarters-below j z h =
-    dite (decLt j 4) (λ l. l)
-    (λ l.
-    let many : 4 ≤ j = omega arith in
-    let same : z ≤ z = omega arith in
-    absurd (omega (arith, mul-le-mul many same)))
-
 pub quarter-below : (n z : ℕ) → n < 4 * z → n / z < 4
-quarter-below n z h = quarters-below (n / z) z (let e = quarter-and-rest n z in omega arith)
+quarter-below n z h =
+    let e = quarter-and-rest n z in
+    let few : n / z * z < 4 * z = omega arith in
+    lt-of-mul-lt-mul-right z few
 
 pub quarter-is : (j z r : ℕ) → r < z → (j * z + r) / z ≡ j
 quarter-is j z r h =
@@ -47,3 +39,7 @@ quarter-is j z r h =
 
 pub rest-is : (j z r : ℕ) → r < z → (j * z + r) % z ≡ r
 rest-is j z r h = mul-add-mod-self-right j z r ∙ mod-eq-of-lt h
+
+-- one of m parts of z numbers lies within them
+pub part-within : (i m z : ℕ) → i < m → i * z + z ≤ m * z
+part-within i m z h = rw (← suc-mul i z) (mul-le-mul-right z h)
