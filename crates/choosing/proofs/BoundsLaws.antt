@@ -1,79 +1,82 @@
--- What the code of bounds relies on: the bounds of a row's cells and of a block's rows, from the last to the first, that the rows
--- of a sound table's slot are valid, and that their bounds by curve number are the phase's bounds.
+-- What the code of bounds relies on: the cell that comes next in the pass over a block and the bounds after it, that the rows of a sound table's slot are
+-- valid, and that their bounds by curve number are the phase's bounds.
 -- Assumes nothing.
-use mathlib.Core.Path.{_≡_, refl, sym, ap, ap₂, _∙_, subst}
-use mathlib.Core.List.{List, [], _∷_, _++_, map, map-append, List·Memᴰ, List·Memᴰ·head, List·Memᴰ·tail, List·Memᴰ·cases-cons, List·Memᴰ·not-nil, Memᴰ·map, Memᴰ·of-map}
+use mathlib.Core.Path.{_≡_, sym, ap, ap₂, _∙_, subst}
+use mathlib.Core.List.{List, [], map, List·Memᴰ, List·Memᴰ·head, List·Memᴰ·tail, List·Memᴰ·cases-cons, List·Memᴰ·not-nil, Memᴰ·map, Memᴰ·of-map}
 use mathlib.Core.Logic.{⊎-elim, dite}
 use Prim.Native.Nat.{ℕ, zero, suc, _+_, _-_, _≤_, _<_}
 use native.Mathlib.Decide.{ℕ-discrete}
+use native.Mathlib.Nat.{mul-zero, zero-mul, suc-mul, lt-of-mul-lt-mul-left, lt-of-mul-lt-mul-right}
 use native.Mathlib.Omega.{arith}
 use lib.IntN.{ℤ}
 use Rattle.grid.specs.Units.{cells}
+use Rattle.grid.specs.Places.{OnGrid}
 use Rattle.grid.specs.Curve.{cell, curveNumber, cellOfNumber}
-use Rattle.grid.specs.declared.Cell.{Cell}
 use Rattle.grid.proofs.CurveLaws.{cell-on-grid, number-of-its-cell, number-below}
 use Rattle.rows.specs.Row.{emptyRow, joined, boundsOf}
 use Rattle.rows.specs.Table.{rowAt, slotRows}
 use Rattle.rows.specs.declared.Row.{Row}
 use Rattle.rows.proofs.TableLaws.{valid-row-at}
-use Rattle.rows.proofs.RowLaws.{joined-assoc, joined-absorbs, bounds-over-empty, bounds-grow, within-antisym}
-use Rattle.methods.specs.Reach.{cellsOf, wholeGrid}
+use Rattle.rows.proofs.RowLaws.{bounds-grow, within-antisym}
+use Rattle.methods.specs.Reach.{columnsOf, rowsOf, cellsOf, wholeGrid, InBlock}
 use Rattle.methods.specs.Methods.{Rows, boundsIn, phaseBounds}
+use Rattle.methods.specs.BoundsInOnePass.{cellCount, visited, boundsAfter}
 use Rattle.methods.specs.Slots.{rowsOfSlot}
 use Rattle.methods.specs.Claims.{ValidRows}
 use Rattle.methods.specs.declared.Block.{Block}
-use Rattle.choosing.specs.Bounds.{IsSlot}
 use Rattle.methods.proofs.Blocks.{grid-has, within-grid-on}
-use Rattle.choosing.proofs.ChoosingPassesLaws.{rowFrom, row-before, rowsFrom, rows-before}
+use Rattle.methods.proofs.BoundsInOnePass.{blocks-are-visited-row-by-row, after-none, after-one-more}
+use Rattle.choosing.specs.Bounds.{IsSlot, BlockOnGrid, cellsBefore}
 
--- the bounds of one list of rows after another
-pub bounds-then : (xs ys : List Row) → joined (boundsOf xs) (boundsOf ys) ≡ boundsOf (xs ++ ys)
-unfolding boundsOf
-bounds-then [] ys = joined-absorbs (bounds-over-empty ys)
-bounds-then (x ∷ xs) ys = joined-assoc x (boundsOf xs) (boundsOf ys) ∙ ap (joined x) (bounds-then xs ys)
+-- ---- the pass over a block
 
--- ---- bounds, from the last cell to the first
+-- a block with a cell has a column, and a row before whose end a cell is left is one of its rows
+pub has-column : (b : Block) → 0 < cellCount b → 0 < columnsOf b
+has-column b h = lt-of-mul-lt-mul-left (rowsOf b) (omega (arith, mul-zero (rowsOf b)))
 
-abbrev pub boundsFor : Rows → List Cell → Row
-boundsFor rows cs = boundsOf (map rows cs)
+pub is-row : (b : Block) (row : ℕ) → cellsBefore b row < cellCount b → row - b .«first_row» < rowsOf b
+is-row b row h = lt-of-mul-lt-mul-right (columnsOf b) h
 
-pub no-bounds : (rows : Rows) → boundsFor rows [] ≡ emptyRow
-unfolding boundsOf
-no-bounds rows = refl
+module _ (b : Block) (row done : ℕ) (from-first : b .«first_row» ≤ row) (in-row : done < columnsOf b) (more : cellsBefore b row + done < cellCount b) where
+  -- the cell that comes after those of the rows before and some of its own row
+  in-turn : visited b (cellsBefore b row + done) ≡ cell (b .«first_column» + done) row
+  in-turn =
+      blocks-are-visited-row-by-row b .in-turn (row - b .«first_row») done (is-row b row (omega arith)) in-row ∙ ap (cell (b .«first_column» + done)) (omega arith)
 
--- one cell more: r joins its row s to the bounds so far
-pub bounds-of-row :
-    (rows : Rows) (b : Block) (row column : ℕ)
-    → 0 < column
-    → column ≤ b .«last_column» + 1
-    → {r s before : Row}
-    → r ≡ joined s before
-    → s ≡ rows (cell (column - 1) row)
-    → before ≡ boundsFor rows (rowFrom b row column)
-    → r ≡ boundsFor rows (rowFrom b row (column - 1))
-unfolding boundsOf
-bounds-of-row rows b row column h k e p q =
-    let n : column - 1 + 1 ≡ column = omega arith in
-    e ∙ ap₂ joined p q ∙ sym (ap (boundsFor rows) (rw n at (row-before b row (column - 1) (omega arith))))
+  pub turn-on-grid : BlockOnGrid b → OnGrid (cell (b .«first_column» + done) row)
+  turn-on-grid on =
+      let inside = subst (InBlock b) in-turn (blocks-are-visited-row-by-row b .in-block (cellsBefore b row + done) more) in
+      record { column-on = omega (arith, inside .to-column, on .columns-on); row-on = omega (arith, inside .to-row, on .rows-on) }
 
--- one row of cells more
-pub bounds-of-rows :
-    (rows : Rows) (b : Block) (row : ℕ)
-    → 0 < row
-    → row ≤ b .«last_row» + 1
-    → {r s before : Row}
-    → r ≡ joined s before
-    → s ≡ boundsFor rows (rowFrom b (row - 1) (b .«first_column»))
-    → before ≡ boundsFor rows (rowsFrom b row)
-    → r ≡ boundsFor rows (rowsFrom b (row - 1))
-bounds-of-rows rows b row h k e p q =
-    let n : row - 1 + 1 ≡ row = omega arith in
-    let xs = rowFrom b (row - 1) (b .«first_column») in
-    e
-    ∙ ap₂ joined p q
-    ∙ bounds-then (map rows xs) (map rows (rowsFrom b row))
-    ∙ ap boundsOf (sym (map-append rows xs (rowsFrom b row)))
-    ∙ sym (ap (boundsFor rows) (rw n at (rows-before b (row - 1) (omega arith))))
+  -- r joins that cell's row to the bounds so far
+  pub bounds-one-more :
+      (rows : Rows) {r s before : Row}
+      → r ≡ joined before s
+      → s ≡ rows (cell (b .«first_column» + done) row)
+      → before ≡ boundsAfter (cellsBefore b row + done) rows b
+      → r ≡ boundsAfter (cellsBefore b row + (done + 1)) rows b
+  bounds-one-more rows e p q =
+      e
+      ∙ ap₂ joined q (p ∙ sym (ap rows in-turn))
+      ∙ sym (after-one-more rows b (cellsBefore b row + done) more)
+      ∙ ap (λ (k : ℕ). boundsAfter k rows b) (omega arith)
+
+-- before the first row, at the end of a row, and at the end
+pub no-row : (b : Block) → cellsBefore b (b .«first_row») ≡ 0
+no-row b =
+    let none : b .«first_row» - b .«first_row» ≡ 0 = omega arith in
+    rw none (zero-mul (columnsOf b))
+
+pub bounds-at-first : (rows : Rows) (b : Block) {r : Row} → r ≡ emptyRow → r ≡ boundsAfter (cellsBefore b (b .«first_row»)) rows b
+bounds-at-first rows b e = e ∙ sym (after-none rows b) ∙ sym (ap (λ (k : ℕ). boundsAfter k rows b) (no-row b))
+
+pub row-more : (b : Block) (row : ℕ) → b .«first_row» ≤ row → cellsBefore b row + columnsOf b ≡ cellsBefore b (row + 1)
+row-more b row h =
+    let one : row + 1 - b .«first_row» ≡ suc (row - b .«first_row») = omega arith in
+    rw one (omega (arith, suc-mul (row - b .«first_row») (columnsOf b)))
+
+pub bounds-so-far : (rows : Rows) (b : Block) {r : Row} {k n : ℕ} → r ≡ boundsAfter k rows b → k ≡ n → r ≡ boundsAfter n rows b
+bounds-so-far rows b e p = e ∙ ap (λ (k : ℕ). boundsAfter k rows b) p
 
 -- ---- the rows of a slot
 

@@ -1,4 +1,4 @@
-pub mod ChoosingPassesLaws
+pub mod MarkPassesLaws
 pub mod BoundsLaws
 pub mod MarkLaws
 pub mod ChooseLaws

@@ -20,7 +20,7 @@ use Rattle.methods.specs.Methods.{Rows, isReached, reached}
 use Rattle.methods.specs.Marks.{withCells}
 use Rattle.choosing.specs.Mark.{noMarks, Marked}
 use Rattle.methods.specs.declared.Block.{Block}
-use Rattle.choosing.proofs.ChoosingPassesLaws.{rowFrom, row-before, row-none, rowsFrom, rows-before, rows-none}
+use Rattle.choosing.proofs.MarkPassesLaws.{rowFrom, row-before, row-none, rowsFrom, rows-before, rows-none}
 
 -- ---- clearing
 

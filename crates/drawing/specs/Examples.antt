@@ -3,7 +3,7 @@
 use mathlib.Core.List.{List, [], _∷_}
 use Prim.Native.Nat.{ℕ}
 use Prim.Native.Char.{code}
-use Rattle.shapes.specs.Examples.{Example}
+use Rattle.ints.specs.Examples.{Example}
 use Rattle.drawing.specs.Chart.{lineBytes, chartBytes, rowNumbers, chartLine}
 
 -- the first and the last numbers of row 0 and of row 31, a line of three numbers, and the bytes of a line and of the text

@@ -3,16 +3,12 @@
 use mathlib.Core.List.{List, [], _∷_}
 use Prim.Native.Nat.{ℕ}
 use lib.IntN.{pos, negsuc}
+use Rattle.ints.specs.Examples.{Example}
 use Rattle.grid.specs.Places.{columnOf}
 use Rattle.grid.specs.Curve.{cell, curveNumber}
 
--- one case: what the definitions give, and what the document says
-pub record Example : Type 0 where
-  pub given : ℕ
-  pub said : ℕ
-
 -- P1 to P6, curve numbers by (column, row), and P7 to P10, columns
-unfoldable pub examples : List Example
+unfoldable pub examples : List (Example ℕ)
 examples =
     record { given = curveNumber (cell 0 0); said = 0 }
     ∷ record { given = curveNumber (cell 0 1); said = 1 }

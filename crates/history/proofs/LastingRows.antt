@@ -15,12 +15,12 @@ use Rattle.grid.specs.Curve.{curveNumber}
 use Rattle.grid.specs.declared.Cell.{Cell}
 use Rattle.grid.specs.declared.Report.{Report}
 use Rattle.grid.proofs.CurveLaws.{number-below}
-use Rattle.rows.specs.Row.{driftOf, widened, boundsOf}
+use Rattle.rows.specs.Row.{driftOf, widened, boundsOf, Within}
 use Rattle.rows.specs.Phases.{slots, phaseOf, isLive, slotOf}
 use Rattle.rows.specs.Table.{tableWords, rowAt, withNewlyLiveEmpty}
 use Rattle.rows.specs.declared.Row.{Row}
 use Rattle.rows.proofs.PhasesLaws.{live-range, range-live, slot-on, phases-grow}
-use Rattle.rows.proofs.RowLaws.{Within, within-refl, within-trans, within-joined-left, holds-within, bounds-grow}
+use Rattle.rows.proofs.RowLaws.{within-refl, within-trans, within-joined-left, holds-within, bounds-grow}
 use Rattle.rows.proofs.TableLaws.{row-written, row-other, length-with-row, length-newly-live-empty, earlier-live-kept}
 use Rattle.records.specs.Words.{Words, timeIn, recordsIn}
 use Rattle.records.specs.Order.{slotOfKey, numberOfKey}

@@ -3,11 +3,11 @@
 -- Assumes nothing.
 use mathlib.Core.Path.{_≡_, refl, ap, subst}
 use mathlib.Core.Bool.{Bool, true, false}
-use mathlib.Core.List.{List, [], _∷_, map, List·Memᴰ, List·Memᴰ·cases-cons, List·Memᴰ·not-nil}
+use mathlib.Core.List.{List, [], _∷_, List·Memᴰ, List·Memᴰ·cases-cons, List·Memᴰ·not-nil}
 use mathlib.Core.Logic.{⊎-elim}
 use Prim.Native.Nat.{ℕ, _+_}
 use native.Mathlib.Omega.{arith}
-use Rattle.grid.specs.Examples.{Example}
+use Rattle.ints.specs.Examples.{AllAsSaid}
 use Rattle.records.specs.Soundness.{isSoundStore, isSound}
 use Rattle.ledger.specs.Answers.{refusalNumber, numberOf}
 use Rattle.ledger.specs.Refusals.{Check, unless, firstToFail, heldChecks}
@@ -86,10 +86,10 @@ one-and-two-never-come-up w time accepted calls r m =
 
 -- ---- computed
 
-pub limits-as-said : map (λ (s : Example). s .given) limits ≡ map (λ (s : Example). s .said) limits
+pub limits-as-said : AllAsSaid limits
 unfolding limits
 limits-as-said = refl
 
-pub numbers-as-said : map (λ (s : Example). s .given) numbers ≡ map (λ (s : Example). s .said) numbers
+pub numbers-as-said : AllAsSaid numbers
 unfolding numbers openOut clockOut firstToFail isSound isSoundStore
 numbers-as-said = refl

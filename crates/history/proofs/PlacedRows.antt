@@ -2,7 +2,7 @@
 -- Assumes nothing.
 use mathlib.Core.Path.{_≡_, refl, sym, ap, ap₂, _∙_, subst}
 use mathlib.Core.Bool.{Bool, true, false, cond, _&&_, not}
-use mathlib.Core.List.{List, [], _∷_, _++_, map, List·Memᴰ, List·Memᴰ·head, List·Memᴰ·tail, List·Memᴰ·eq-of-singleton, Memᴰ·append-left, Memᴰ·append-right}
+use mathlib.Core.List.{List, [], _∷_, _++_, map, List·Memᴰ, List·Memᴰ·head, List·Memᴰ·tail, List·Memᴰ·eq-of-singleton, Memᴰ·append-left}
 use mathlib.Core.Logic.{⊎-elim, dite}
 use Prim.Native.Nat.{ℕ, _≤_, _<_}
 use native.Mathlib.Decide.{decLt}
@@ -45,7 +45,7 @@ use Rattle.ledger.specs.Machine.{Ledger, Held, Placement, placeIn, placement, n
 use Rattle.ledger.proofs.MachineLaws.{isThere, ownRow, speeds-append, speeds-live, no-speeds, speed-from}
 use Rattle.history.proofs.Relation.{recordOf, recordsOfHeld, GoodPlacement, Good, TableMatches}
 use Rattle.history.proofs.HeldRecords.{records-from, stays-held}
-use Rattle.history.proofs.GoodKept.{current-live, good-placement, stepped-good}
+use Rattle.history.proofs.GoodKept.{current-live, stepped-good}
 
 -- ---- valid rows
 
@@ -204,7 +204,7 @@ module _ (l : Ledger) (table : List ℤ) (time : ℤ) (good : Good l) (matches :
         (λ a m. good-after a (Memᴰ·append-left (newPlacements time (l .held)) m))) in
         row-with-speeds emptied anew (slotOf p) n long each-placeable here v
         ∙ ap₂ joined kept-row (bounds-alike (l .now) time p n (l .held) (λ h m. good .holds h m .live) live here)
-        ∙ sym (bounds-append old new (speeds-valid time p (cellOfNumber n) (newPlacements time (l .held)) (λ a m. good-after a (Memᴰ·append-right (livePlacements time (l .placements)) m))))
+        ∙ sym (bounds-append old new)
         ∙ sym (ap boundsOf (speeds-append p (cellOfNumber n) (livePlacements time (l .placements)) (newPlacements time (l .held))))
 
   rest-stepped : (slot n : ℕ) → slot < slots → n < cells → ((p : ℕ) → isLive c′ p ≡ true → slotOf p ≡ slot → ⊥) → rowAt (widenedByAll emptied anew) slot n ≡ emptyRow
@@ -244,12 +244,9 @@ module _ (l : Ledger) (table : List ℤ) (r : Report) (good : Good l) (matches :
   row-placed : (p : ℕ) → isLive now p ≡ true → (n : ℕ) → n < cells → rowAt (widenedByAll table one) (slotOf p) n ≡ boundsOf (speedsPlaced p (cellOfNumber n) (l .placements ++ placement now r ∷ []))
   unfolding rowsIn
   row-placed p live n here =
-      let one-good : (a : Placement) → List·Memᴰ a (placement now r ∷ []) → GoodPlacement (l .now) a =
-      λ a m. subst (GoodPlacement (l .now)) (sym (List·Memᴰ·eq-of-singleton m)) (good-placement (l .now) r ranged) in
       row-with-speeds table one (slotOf p) n (matches .table-long) one-placeable here (table-valid l table good matches (slotOf p) n (slot-on p) here)
       ∙ ap₂ (λ (x : Row) (s : List Row). joined x (boundsOf s)) (matches .rows-are p live n here) (speeds-alike p n live here)
-      ∙ sym (bounds-append (speedsPlaced p (cellOfNumber n) (l .placements)) (speedsPlaced p (cellOfNumber n) (placement now r ∷ []))
-      (speeds-valid (l .now) p (cellOfNumber n) (placement now r ∷ []) one-good))
+      ∙ sym (bounds-append (speedsPlaced p (cellOfNumber n) (l .placements)) (speedsPlaced p (cellOfNumber n) (placement now r ∷ [])))
       ∙ sym (ap boundsOf (speeds-append p (cellOfNumber n) (l .placements) (placement now r ∷ [])))
 
   rest-placed : (slot n : ℕ) → slot < slots → n < cells → ((p : ℕ) → isLive now p ≡ true → slotOf p ≡ slot → ⊥) → rowAt (widenedByAll table one) slot n ≡ emptyRow

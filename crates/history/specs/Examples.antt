@@ -2,9 +2,10 @@
 -- definitions give, and what document 01 says.
 -- Assumes nothing.
 use mathlib.Core.List.{List, [], _∷_}
+use Prim.Native.Nat.{ℕ}
 use lib.IntN.{ℤ, pos, negsuc}
 use lib.ListN.{replicate}
-use Rattle.grid.specs.Examples.{Example}
+use Rattle.ints.specs.Examples.{Example}
 use Rattle.grid.specs.Units.{cells, lastPosition}
 use Rattle.rows.specs.Table.{tableWords}
 use Rattle.methods.specs.Slices.{latest}
@@ -13,7 +14,7 @@ use Rattle.records.specs.Words.{words}
 use Rattle.ledger.specs.Answers.{numberOf}
 use Rattle.engine.specs.Index.{openOut, clockOut}
 
-unfoldable pub limits : List Example
+unfoldable pub limits : List (Example ℕ)
 limits =
     record { given = lastPosition; said = 8388607 }
     ∷ record { given = cells; said = 1024 }
@@ -29,7 +30,7 @@ wholeStore word = replicate storeWords word
 abbrev pub wholeTable : List ℤ
 wholeTable = replicate tableWords (pos 0)
 
-unfoldable pub numbers : List Example
+unfoldable pub numbers : List (Example ℕ)
 numbers =
     record { given = numberOf (openOut (words (wholeStore (negsuc 0)) wholeTable) (pos 0) .answer); said = 0 }
     ∷ record { given = numberOf (clockOut (words [] []) (pos 0) .answer); said = 1 }

@@ -2,14 +2,13 @@
 -- so do a worked list with each refusal from 3 on, and a full ledger. Each number from 3 to 8 is given by a call.
 -- Assumes nothing.
 use mathlib.Core.Path.{_≡_, refl}
-use mathlib.Core.List.{map}
 use lib.IntN.{pos}
 use Rattle.ints.specs.Whole.{minZ, maxZ, eqZ}
 use Rattle.ints.specs.Lists.{passing, some}
+use Rattle.ints.specs.Examples.{AllAsSaid}
 use Rattle.grid.specs.Places.{columnOf, cellSpan}
 use Rattle.grid.specs.Curve.{numberAt}
 use Rattle.grid.specs.Reports.{inRange, xAt, yAt, inRect, isListed}
-use Rattle.grid.specs.Examples.{Example}
 use Rattle.grid.specs.Examples as Grid
 use Rattle.rows.specs.Row.{joined, sameRow, isEmpty, boundsOf}
 use Rattle.rows.specs.Phases.{phaseOf, referenceTime, isLive, livePhases}
@@ -23,7 +22,7 @@ use Rattle.ledger.specs.Examples.{examples, ledgerP11, ledgerP12, phases
 use Rattle.ledger.specs.declared.Answer.the-variants.{Accepted, Refused}
 use Rattle.ledger.specs.declared.Refusal.the-variants.{Full}
 
-pub all-as-said : map (λ (s : Example). s .given) examples ≡ map (λ (s : Example). s .said) examples
+pub all-as-said : AllAsSaid examples
 unfolding examples Grid.examples ledgerP11 ledgerP12 phasesHeld columnsPlaced columnOf cellSpan numberAt minZ maxZ eqZ passing some joined sameRow isEmpty boundsOf expandedRange
     expandedRect blockOf cellsOfRow cellsOfRows cellsOf movedSpan meets movedCellMeets boundsIn expandedBlock iterated choice inRange xAt yAt inRect isListed phaseOf
     referenceTime isLive livePhases firstToFail isRectangle steppedHeld newPlacements livePlacements stepped without withReport withoutId speedsPlaced rowsIn
@@ -51,7 +50,7 @@ unfolding columnOf cellSpan numberAt minZ maxZ eqZ passing some joined sameRow i
     idsOf next replyTo replies after
 full-as-said = (refl, refl)
 
-pub numbers-as-said : map (λ (s : Example). s .given) numbers ≡ map (λ (s : Example). s .said) numbers
+pub numbers-as-said : AllAsSaid numbers
 unfolding numbers ledgerOfOne columnOf cellSpan numberAt minZ maxZ eqZ passing some joined sameRow isEmpty boundsOf expandedRange expandedRect blockOf cellsOfRow cellsOfRows cellsOf
     movedSpan meets movedCellMeets boundsIn expandedBlock iterated choice inRange xAt yAt inRect isListed phaseOf referenceTime isLive livePhases firstToFail isRectangle
     steppedHeld newPlacements livePlacements stepped without withReport withoutId speedsPlaced rowsIn usefulCells putInOrder idsInOrder summed answerTo

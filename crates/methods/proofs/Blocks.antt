@@ -14,15 +14,8 @@ use Rattle.grid.specs.Places.{OnGrid}
 use Rattle.grid.specs.Curve.{cell}
 use Rattle.grid.specs.declared.Cell.{Cell}
 use Rattle.grid.proofs.PlacesLaws.{one-cell}
-use Rattle.methods.specs.Reach.{columnsOf, rowsOf, cellsOfRow, cellsOfRows, cellsOf, wholeGrid}
+use Rattle.methods.specs.Reach.{columnsOf, rowsOf, cellsOfRow, cellsOfRows, cellsOf, wholeGrid, InBlock}
 use Rattle.methods.specs.declared.Block.{Block}
-
--- a cell's column and row are the block's
-pub record InBlock (b : Block) (c : Cell) : Type 0 where
-  pub from-column : b .«first_column» ≤ c .column
-  pub to-column : c .column ≤ b .«last_column»
-  pub from-row : b .«first_row» ≤ c .row
-  pub to-row : c .row ≤ b .«last_row»
 
 -- ---- membership
 

@@ -1,20 +1,24 @@
--- P1 to P11 hold of the definitions jointly: one tabled fact, which antt computes.
+-- P1 to P11 hold of the definitions jointly: one tabled fact, which antt computes. So do the bounds of four cells, one after another.
 -- Assumes nothing.
-use mathlib.Core.Path.{_≡_, refl}
-use mathlib.Core.List.{map}
+use mathlib.Core.Path.{refl}
 use Rattle.ints.specs.Whole.{minZ, maxZ, eqZ}
 use Rattle.ints.specs.Lists.{passing}
+use Rattle.ints.specs.Examples.{AllAsSaid}
 use Rattle.grid.specs.Places.{columnOf, cellSpan}
 use Rattle.grid.specs.Curve.{numberAt}
-use Rattle.grid.specs.Examples.{Example}
 use Rattle.grid.specs.Examples as Grid
 use Rattle.rows.specs.Row.{joined, sameRow, isEmpty, boundsOf}
 use Rattle.methods.specs.Reach.{expandedRange, expandedRect, blockOf, cellsOfRow, cellsOfRows, cellsOf, movedSpan, meets, movedCellMeets}
 use Rattle.methods.specs.Methods.{boundsIn, expandedBlock, iterated, choice}
-use Rattle.methods.specs.Examples.{examples, rowsP11, choiceP11}
+use Rattle.methods.specs.BoundsInOnePass.{boundsAfter}
+use Rattle.methods.specs.Examples.{examples, rowsP11, choiceP11, rowsOfFour, boundsOfFour}
 
-pub all-as-said : map (λ (s : Example). s .given) examples ≡ map (λ (s : Example). s .said) examples
+pub all-as-said : AllAsSaid examples
 unfolding examples Grid.examples columnOf cellSpan numberAt minZ maxZ eqZ passing joined sameRow isEmpty boundsOf
     expandedRange expandedRect blockOf cellsOfRow cellsOfRows cellsOf movedSpan meets movedCellMeets
     boundsIn expandedBlock iterated choice rowsP11 choiceP11
 all-as-said = refl
+
+pub bounds-as-said : AllAsSaid boundsOfFour
+unfolding boundsOfFour rowsOfFour columnOf minZ maxZ joined boundsOf cellsOfRow cellsOfRows cellsOf boundsAfter
+bounds-as-said = refl

@@ -1,5 +1,6 @@
 pub mod Axis
 pub mod Blocks
+pub mod BoundsInOnePass
 pub mod Nesting
 pub mod Timeslice
 pub mod Exact

@@ -13,17 +13,17 @@ use Rattle.grid.specs.Places.{OnGrid}
 use Rattle.grid.specs.declared.Cell.{Cell}
 use Rattle.grid.specs.declared.Rect.{Rect}
 use Rattle.grid.proofs.PlacesLaws.{column-on}
-use Rattle.rows.specs.Row.{isEmpty, validRow}
+use Rattle.rows.specs.Row.{isEmpty, validRow, Within}
 use Rattle.rows.specs.declared.Row.{Row}
-use Rattle.rows.proofs.RowLaws.{Within, joined-absorbs, AllValid, bounds-hold, bounds-grow, bounds-valid, bounds-none}
-use Rattle.methods.specs.Reach.{blockOf, wholeGrid, columnsOf, rowsOf, cellsOf}
+use Rattle.rows.proofs.RowLaws.{joined-absorbs, AllValid, bounds-hold, bounds-grow, bounds-valid, bounds-none}
+use Rattle.methods.specs.Reach.{blockOf, wholeGrid, columnsOf, rowsOf, cellsOf, InBlock}
 use Rattle.methods.specs.Aims.{Aim}
 use Rattle.methods.specs.Fair.{InOrder, RectWithin, Fair}
 use Rattle.methods.specs.Methods.{Rows, boundsIn, phaseBounds, isReached}
 use Rattle.methods.specs.Claims.{ValidRows}
 use Rattle.methods.specs.declared.Block.{Block}
 use Rattle.methods.proofs.Axis.{column-grows}
-use Rattle.methods.proofs.Blocks.{InBlock, BlockWithin, cells-in, cells-within, within-grid-on}
+use Rattle.methods.proofs.Blocks.{BlockWithin, cells-in, cells-within, within-grid-on}
 
 -- ---- blocks of expanded rectangles
 

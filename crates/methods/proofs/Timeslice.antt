@@ -16,10 +16,10 @@ use Rattle.grid.specs.declared.Range.{Range}
 use Rattle.grid.specs.declared.Report.{Report}
 use Rattle.grid.proofs.ReportsLaws.{x-moved, y-moved}
 use Rattle.grid.proofs.PlacesLaws.{in-own-cell, starts-by-column, ends-from-column}
-use Rattle.rows.specs.Row.{joined, isEmpty, validRow}
+use Rattle.rows.specs.Row.{joined, isEmpty, validRow, Within}
 use Rattle.rows.specs.Phases.{referenceTime}
 use Rattle.rows.specs.declared.Row.{Row}
-use Rattle.rows.proofs.RowLaws.{Within, within-joined-left, held-within, valid-ranged}
+use Rattle.rows.proofs.RowLaws.{within-joined-left, held-within, valid-ranged}
 use Rattle.methods.specs.Reach.{expandedRange, expandedRect, blockOf, cellsOf, movedSpan, meets, movedCellMeets}
 use Rattle.methods.specs.Aims.{sliceOf, Placed, placedBy, ownCell, heldBy, inSlice}
 use Rattle.methods.specs.Fair.{InOrder, RectWithin}

@@ -1,16 +1,20 @@
--- The P cases of document 01 so far: those of the grid, and P11, which speaks of the methods.
+-- The P cases of document 01 so far: those of the grid, and P11, which speaks of the methods; and the bounds of a block of four cells, one cell after
+-- another.
 -- Assumes nothing.
 use mathlib.Core.Bool.{cond}
 use mathlib.Core.List.{List, [], _∷_, _++_}
 use Prim.Native.Nat.{ℕ}
-use lib.IntN.{ℤ, pos}
+use lib.IntN.{ℤ, pos, negsuc}
 use lib.ListN.{length}
+use Rattle.ints.specs.Examples.{Example}
 use Rattle.grid.specs.Places.{sameCell, cellOf}
-use Rattle.grid.specs.Examples.{Example}
 use Rattle.grid.specs.Examples as Grid
 use Rattle.rows.specs.Row.{emptyRow, widened}
+use Rattle.rows.specs.declared.Row.{Row}
 use Rattle.methods.specs.Aims.{sliceAim}
 use Rattle.methods.specs.Methods.{Rows, Choice, choice}
+use Rattle.methods.specs.BoundsInOnePass.{boundsAfter}
+use Rattle.methods.specs.declared.Block.{Block}
 use Rattle.methods.specs.declared.Slice.{Slice}
 
 -- rows with one float more, placed at (x, y)
@@ -37,7 +41,7 @@ sliceP11 = record {
 unfoldable pub choiceP11 : ℕ → Choice
 choiceP11 method = choice method rowsP11 (sliceAim sliceP11)
 
-unfoldable pub examples : List Example
+unfoldable pub examples : List (Example ℕ)
 examples =
     Grid.examples
     ++ record { given = length (choiceP11 0 .cells); said = 8 }
@@ -45,4 +49,30 @@ examples =
     ∷ record { given = length (choiceP11 2 .cells); said = 1 }
     ∷ record { given = length (choiceP11 3 .cells); said = 1 }
     ∷ record { given = choiceP11 2 .rounds; said = 2 }
+    ∷ []
+
+-- columns 3 and 4, rows 7 and 8; one float in each of its cells but (4,7)
+abbrev pub blockOfFour : Block
+blockOfFour = record { «first_column» = 3; «last_column» = 4; «first_row» = 7; «last_row» = 8 }
+
+unfoldable pub rowsOfFour : Rows
+rowsOfFour =
+    withFloat
+    (withFloat (withFloat (λ c. emptyRow) (pos 786432) (pos 1835008) (pos 5) (pos 0)) (pos 786432) (pos 2097152) (negsuc 1) (pos 9))
+    (pos 1048576)
+    (pos 2097152)
+    (pos 7)
+    (negsuc 0)
+
+abbrev pub rowBy : ℤ → ℤ → ℤ → ℤ → Row
+rowBy least-vx greatest-vx least-vy greatest-vy =
+    record { «least_vx» = least-vx; «greatest_vx» = greatest-vx; «least_vy» = least-vy; «greatest_vy» = greatest-vy }
+
+unfoldable pub boundsOfFour : List (Example Row)
+boundsOfFour =
+    record { given = boundsAfter 0 rowsOfFour blockOfFour; said = emptyRow }
+    ∷ record { given = boundsAfter 1 rowsOfFour blockOfFour; said = rowBy (pos 5) (pos 5) (pos 0) (pos 0) }
+    ∷ record { given = boundsAfter 2 rowsOfFour blockOfFour; said = rowBy (pos 5) (pos 5) (pos 0) (pos 0) }
+    ∷ record { given = boundsAfter 3 rowsOfFour blockOfFour; said = rowBy (negsuc 1) (pos 5) (pos 0) (pos 9) }
+    ∷ record { given = boundsAfter 4 rowsOfFour blockOfFour; said = rowBy (negsuc 1) (pos 7) (negsuc 0) (pos 9) }
     ∷ []

@@ -2,6 +2,7 @@ pub mod Reach
 pub mod Aims
 pub mod Fair
 pub mod Methods
+pub mod BoundsInOnePass
 pub mod Slots
 pub mod Marks
 pub mod Slices

@@ -3,7 +3,7 @@
 -- Assumes nothing.
 use mathlib.Core.Bool.{Bool, _&&_}
 use mathlib.Core.List.{List, [], _∷_, _++_}
-use Prim.Native.Nat.{ℕ, zero, suc, _-_}
+use Prim.Native.Nat.{ℕ, zero, suc, _-_, _≤_}
 use lib.IntN.{ℤ, pos, negsuc, _+ℤ_, _-ℤ_, _*ℤ_}
 use Rattle.grid.specs.Units.{side}
 use Rattle.grid.specs.Places.{End, Span, endless, at, columnOf, rowOf, cellSpan, notBelow, notAbove}
@@ -41,6 +41,13 @@ blockOf q = record {
   «first_row» = rowOf (q .y .low);
   «last_row» = rowOf (q .y .high);
 }
+
+-- a cell's column and row are the block's
+pub record InBlock (b : Block) (c : Cell) : Type 0 where
+  pub from-column : b .«first_column» ≤ c .column
+  pub to-column : c .column ≤ b .«last_column»
+  pub from-row : b .«first_row» ≤ c .row
+  pub to-row : c .row ≤ b .«last_row»
 
 abbrev pub wholeGrid : Block
 wholeGrid = record { «first_column» = 0; «last_column» = side - 1; «first_row» = 0; «last_row» = side - 1 }

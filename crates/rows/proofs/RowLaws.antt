@@ -15,7 +15,7 @@ use Rattle.ints.proofs.Least.{min-comm, max-comm, min-assoc, max-assoc, min-sam
 use Rattle.ints.proofs.Truth.{and-true, and-left, and-right}
 use Rattle.ints.proofs.Same.{same-is, is-same}
 use Rattle.grid.specs.Units.{speedLimit}
-use Rattle.rows.specs.Row.{emptyRow, rowOfDrift, joined, widened, holds, sameRow, isEmpty, validAxis, validRow, boundsOf}
+use Rattle.rows.specs.Row.{emptyRow, rowOfDrift, joined, widened, holds, sameRow, isEmpty, validAxis, validRow, boundsOf, Within}
 use Rattle.rows.specs.declared.Drift.{Drift}
 use Rattle.rows.specs.declared.Row.{Row}
 
@@ -37,13 +37,7 @@ pub joined-same : (a : Row) → joined a a ≡ a
 unfolding joined
 joined-same a = same-numbers (min-same _) (max-same _) (min-same _) (max-same _)
 
--- ---- the order: every speed that a holds, b holds
-
-pub record Within (a b : Row) : Type 0 where
-  pub least-x : leZ (b .«least_vx») (a .«least_vx») ≡ true
-  pub greatest-x : leZ (a .«greatest_vx») (b .«greatest_vx») ≡ true
-  pub least-y : leZ (b .«least_vy») (a .«least_vy») ≡ true
-  pub greatest-y : leZ (a .«greatest_vy») (b .«greatest_vy») ≡ true
+-- ---- the order of rows
 
 pub within-refl : (a : Row) → Within a a
 within-refl a =
@@ -385,8 +379,14 @@ bounds-smallest {b} (r ∷ rs) v e h =
         bounds-within (r ∷ rs) over
         (λ q m. ⊎-elim (λ p. subst (λ (x : Row). Within x b) (sym p) over) (λ n. h q m (ranged-not-empty n)) (valid-cases q (v q m)))
 
-pub bounds-append : (xs ys : List Row) → AllValid ys → boundsOf (xs ++ ys) ≡ joined (boundsOf xs) (boundsOf ys)
+-- the bounds of one list of rows after another
+pub bounds-append : (xs ys : List Row) → boundsOf (xs ++ ys) ≡ joined (boundsOf xs) (boundsOf ys)
 unfolding boundsOf
-bounds-append [] ys v = sym (joined-empty-left (boundsOf ys) (bounds-valid ys v))
-bounds-append (x ∷ xs) ys v =
-    ap (joined x) (bounds-append xs ys v) ∙ sym (joined-assoc x (boundsOf xs) (boundsOf ys))
+bounds-append [] ys = sym (joined-absorbs (bounds-over-empty ys))
+bounds-append (x ∷ xs) ys = ap (joined x) (bounds-append xs ys) ∙ sym (joined-assoc x (boundsOf xs) (boundsOf ys))
+
+-- one row more at the end, valid or not
+pub bounds-more : (xs : List Row) (r : Row) → boundsOf (xs ++ r ∷ []) ≡ joined (boundsOf xs) r
+unfolding boundsOf
+bounds-more [] r = joined-comm r emptyRow
+bounds-more (x ∷ xs) r = ap (joined x) (bounds-more xs r) ∙ sym (joined-assoc x (boundsOf xs) r)

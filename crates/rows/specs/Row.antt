@@ -1,7 +1,8 @@
 -- A speed row: the least and the greatest vx and vy seen in a cell, in centimetres per second, and the bounds of a set of rows. Document 01,
 -- "Phases and speed rows" and "The four ways to choose cells".
 -- Assumes nothing.
-use mathlib.Core.Bool.{Bool, _&&_, _||_}
+use mathlib.Core.Path.{_≡_}
+use mathlib.Core.Bool.{Bool, true, _&&_, _||_}
 use mathlib.Core.List.{List, [], _∷_}
 use Prim.Native.Nat.{suc}
 use lib.IntN.{ℤ, pos, negsuc, negℤ}
@@ -66,3 +67,10 @@ validRow r = isEmpty r || (validAxis (r .«least_vx») (r .«greatest_vx») && v
 unfoldable pub boundsOf : List Row → Row
 boundsOf [] = emptyRow
 boundsOf (r ∷ rs) = joined r (boundsOf rs)
+
+-- row b holds row a: no number of a lies outside
+pub record Within (a b : Row) : Type 0 where
+  pub least-x : leZ (b .«least_vx») (a .«least_vx») ≡ true
+  pub greatest-x : leZ (a .«greatest_vx») (b .«greatest_vx») ≡ true
+  pub least-y : leZ (b .«least_vy») (a .«least_vy») ≡ true
+  pub greatest-y : leZ (a .«greatest_vy») (b .«greatest_vy») ≡ true

@@ -2,6 +2,7 @@
 -- Assumes nothing.
 use mathlib.Core.List.{List, [], _∷_}
 use Prim.Native.Nat.{ℕ, zero, suc}
+use Rattle.ints.specs.Examples.{Example}
 use Rattle.grid.specs.Curve.{cell}
 use Rattle.grid.specs.declared.Cell.{Cell}
 use Rattle.shapes.specs.Shapes.{Shape, ShapeA, ShapeB, ShapeC, ShapeD, visit}
@@ -10,11 +11,6 @@ use Rattle.shapes.specs.Shapes.{Shape, ShapeA, ShapeB, ShapeC, ShapeD, v
 unfoldable pub visits : ℕ → Shape → ℕ → ℕ → List Cell
 visits k f number zero = []
 visits k f number (suc n) = visit k f number ∷ visits k f (suc number) n
-
--- one case: what the definitions give, and what is said
-pub record Example (A : Type 0) : Type 0 where
-  pub given : A
-  pub said : A
 
 -- the four shapes of order 1 as the document tables them, and the curve of order 2
 unfoldable pub examples : List (Example (List Cell))

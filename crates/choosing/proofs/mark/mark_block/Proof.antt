@@ -8,7 +8,7 @@ use denote.Ref.{now}
 use lib.ListN.{length}
 use Rattle.grid.specs.Units.{cells}
 use Rattle.methods.specs.Reach.{cellsOf}
-use Rattle.choosing.proofs.ChoosingPassesLaws.{rowFrom, rowsFrom, rows-before, rows-none}
+use Rattle.choosing.proofs.MarkPassesLaws.{rowFrom, rowsFrom, rows-before, rows-none}
 use Rattle.choosing.proofs.MarkLaws.{Left, left-all, left-next, left-none}
 use borrow.Author.Needs.{needs}
 use Rattle.choosing.proofs.mark.mark_block.Statement.{statement}

@@ -10,7 +10,7 @@ use Rattle.methods.specs.Reach.{cellsOf}
 use Rattle.methods.specs.Aims.{sliceAim}
 use Rattle.methods.specs.Methods.{reached}
 use Rattle.methods.specs.Slots.{rowsOfSlot}
-use Rattle.choosing.proofs.ChoosingPassesLaws.{rowsFrom}
+use Rattle.choosing.proofs.MarkPassesLaws.{rowsFrom}
 use Rattle.choosing.proofs.MarkLaws.{Left, left-all, left-next, left-none, reached-rows-before, reached-rows-none}
 use borrow.Author.Needs.{needs}
 use Rattle.choosing.proofs.mark.mark_reached.Statement.{statement}

@@ -11,7 +11,7 @@ use Rattle.grid.specs.Curve.{cell}
 use Rattle.methods.specs.Aims.{sliceAim}
 use Rattle.methods.specs.Methods.{reached}
 use Rattle.methods.specs.Slots.{rowsOfSlot}
-use Rattle.choosing.proofs.ChoosingPassesLaws.{rowFrom}
+use Rattle.choosing.proofs.MarkPassesLaws.{rowFrom}
 use Rattle.choosing.proofs.MarkLaws.{Left, left-all, left-next, left-none, reached-row-before, reached-row-none}
 use borrow.Author.Needs.{needs}
 use Rattle.choosing.proofs.mark.mark_reached_in_row.Statement.{statement}

@@ -9,7 +9,7 @@ use denote.Ref.{now}
 use lib.ListN.{length}
 use Rattle.grid.specs.Units.{cells}
 use Rattle.grid.specs.Curve.{cell}
-use Rattle.choosing.proofs.ChoosingPassesLaws.{rowFrom, row-before, row-none}
+use Rattle.choosing.proofs.MarkPassesLaws.{rowFrom, row-before, row-none}
 use Rattle.choosing.proofs.MarkLaws.{Left, left-all, left-next, left-none}
 use borrow.Author.Needs.{needs}
 use Rattle.choosing.proofs.mark.mark_row.Statement.{statement}

@@ -1,14 +1,12 @@
 -- The cells of a block as the loops pass them: the cells of a row from a column on, and the cells of the rows from a row on.
 -- Assumes nothing.
-use mathlib.Core.Path.{_≡_, sym, ap, _∙_}
+use mathlib.Core.Path.{_≡_}
 use mathlib.Core.List.{List, [], _∷_, _++_}
-use mathlib.Core.Logic.{dite}
-use Prim.Native.Nat.{ℕ, suc, _+_, _-_, _≤_, _<_, min}
-use native.Mathlib.Decide.{decLe}
+use Prim.Native.Nat.{ℕ, suc, _+_, _-_, _≤_, _<_}
 use native.Mathlib.Omega.{arith}
 use Rattle.grid.specs.Curve.{cell}
 use Rattle.grid.specs.declared.Cell.{Cell}
-use Rattle.methods.specs.Reach.{cellsOfRow, cellsOfRows, cellsOf}
+use Rattle.methods.specs.Reach.{cellsOfRow, cellsOfRows}
 use Rattle.methods.specs.declared.Block.{Block}
 
 -- ---- a row of cells
@@ -28,13 +26,6 @@ pub row-none : (b : Block) (row column : ℕ) → b .«last_column» + 1 ≤ col
 unfolding cellsOfRow
 row-none b row column h = let e : suc (b .«last_column») - column ≡ 0 = omega arith in rw e
 
--- from the first column or below it, where the columns are all passed
-pub row-whole : (b : Block) (row column : ℕ) → column ≤ b .«first_column» → min (b .«first_column») (b .«last_column» + 1) ≤ column → rowFrom b row column ≡ rowFrom b row (b .«first_column»)
-row-whole b row column h k =
-    dite (decLe (b .«last_column» + 1) column)
-    (λ l. row-none b row column l ∙ sym (row-none b row (b .«first_column») (omega arith)))
-    (λ l. ap (rowFrom b row) (omega arith))
-
 -- ---- the rows of a block
 
 -- the cells of the block's rows, from a row on
@@ -51,10 +42,3 @@ rows-before b row h =
 pub rows-none : (b : Block) (row : ℕ) → b .«last_row» + 1 ≤ row → rowsFrom b row ≡ []
 unfolding cellsOfRows
 rows-none b row h = let e : suc (b .«last_row») - row ≡ 0 = omega arith in rw e
-
-pub rows-whole : (b : Block) (row : ℕ) → row ≤ b .«first_row» → min (b .«first_row») (b .«last_row» + 1) ≤ row → rowsFrom b row ≡ cellsOf b
-unfolding cellsOf
-rows-whole b row h k =
-    dite (decLe (b .«last_row» + 1) row)
-    (λ l. rows-none b row l ∙ sym (rows-none b (b .«first_row») (omega arith)))
-    (λ l. ap (rowsFrom b) (omega arith))
