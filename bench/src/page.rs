@@ -27,8 +27,8 @@ Fleets: floats anywhere in the sea, 49 in 50 with speeds up to 30 cm/s and the o
 evenly at the starts of the three live phases. Rectangles lie in the middle of the sea and are asked for an hour
 ahead. A phase change with all floats to move has them all in the phase that dies. Times are microseconds. All
 are measured in turn, on fresh copies of the buffers, so that a busy machine disturbs them alike; what counts are
-the ratios. Where the linker puts the code moves short loops by up to a third from build to build, the index's
-and the twin's alike. A ratio in bold misses its goal.
+the ratios. Where a function lies moves its short loops by up to a half, so each, of the index and of the twin,
+is put at a multiple of 64 bytes; in another program it may lie elsewhere. A ratio in bold misses its goal.
 ";
 
 pub fn page(all: &[Times], runs: usize) -> String {

@@ -10,6 +10,7 @@ use native.Mathlib.Nat.{zero-mul, suc-mul, mul-le-mul-right}
 use native.Mathlib.Omega.{arith}
 use lib.ListN.{length, getD, take, length-append, List·getD-append}
 use lib.Seq.{take-suc, take-all, getD-append-add}
+use Rattle.ints.specs.Visits.{VisitedOnce}
 use Rattle.grid.specs.Curve.{cell}
 use Rattle.grid.specs.declared.Cell.{Cell}
 use Rattle.grid.proofs.PlacesLaws.{one-cell}
@@ -19,7 +20,7 @@ use Rattle.rows.proofs.RowLaws.{joined-comm, joined-within, joined-absorbs, wit
 use Rattle.rows.proofs.RowLaws.{empty-is, bounds-over-empty, bounds-within, bounds-more}
 use Rattle.methods.specs.Reach.{columnsOf, rowsOf, cellsOfRow, cellsOfRows, cellsOf, InBlock}
 use Rattle.methods.specs.Methods.{Rows, boundsIn}
-use Rattle.methods.specs.BoundsInOnePass.{cellCount, visited, VisitedOnce, BlocksAreVisitedRowByRow, boundsAfter, AfterAllCells}
+use Rattle.methods.specs.BoundsInOnePass.{cellCount, visited, BlocksAreVisitedRowByRow, boundsAfter, AfterAllCells}
 use Rattle.methods.specs.BoundsInOnePass.{upToColumn, afterColumn, upToRow, afterRow, SmallestOfBoth, BoundsOfCutBlocksJoin}
 use Rattle.methods.specs.declared.Block.{Block}
 use Rattle.methods.proofs.Blocks.{cells-in, cells-have, BlockWithin, Once, none, one, cells-once}
@@ -83,7 +84,7 @@ in-turn : (b : Block) (i j : ℕ) → i < rowsOf b → j < columnsOf b → visit
 unfolding cellsOf
 in-turn b i j h k = in-rows (cell 0 0) b (b .«first_row») (rowsOf b) i j h k
 
-visited-once : (b : Block) (c : Cell) → InBlock b c → VisitedOnce b c
+visited-once : (b : Block) (c : Cell) → InBlock b c → VisitedOnce (cellCount b) (visited b) c
 visited-once b c h =
     let i = c .row - b .«first_row» in
     let j = c .column - b .«first_column» in

@@ -6,6 +6,7 @@ use mathlib.Core.Bool.{true}
 use mathlib.Core.List.{map}
 use Prim.Native.Nat.{ℕ, suc, _+_, _*_, _≤_, _<_}
 use lib.ListN.{length, getD, take}
+use Rattle.ints.specs.Visits.{VisitedOnce}
 use Rattle.grid.specs.Curve.{cell}
 use Rattle.grid.specs.declared.Cell.{Cell}
 use Rattle.rows.specs.Row.{joined, isEmpty, boundsOf, Within}
@@ -23,18 +24,13 @@ cellCount b = rowsOf b * columnsOf b
 abbrev pub visited : Block → ℕ → Cell
 visited b n = getD (cellsOf b) n (cell 0 0)
 
-pub record VisitedOnce (b : Block) (c : Cell) : Type 0 where
-  pub number : ℕ
-  pub below : number < cellCount b
-  pub visits : visited b number ≡ c
-  pub only : (n : ℕ) → n < cellCount b → visited b n ≡ c → n ≡ number
-
--- as many visits as cells; after i rows of cells and j cells more that of column j and row i, both counted from the low corner; none outside the block
+-- as many visits as cells; after i rows of cells and j cells more that of column j and row i, both counted from the low corner; none outside the block;
+-- each of its cells once
 pub record RowByRow (b : Block) : Type 0 where
   pub as-many : length (cellsOf b) ≡ cellCount b
   pub in-turn : (i j : ℕ) → i < rowsOf b → j < columnsOf b → visited b (i * columnsOf b + j) ≡ cell (b .«first_column» + j) (b .«first_row» + i)
   pub in-block : (n : ℕ) → n < cellCount b → InBlock b (visited b n)
-  pub once : (c : Cell) → InBlock b c → VisitedOnce b c
+  pub once : (c : Cell) → InBlock b c → VisitedOnce (cellCount b) (visited b) c
 
 abbrev pub BlocksAreVisitedRowByRow : Type 0
 BlocksAreVisitedRowByRow = (b : Block) → RowByRow b

@@ -4,11 +4,12 @@
 use mathlib.Core.Path.{_≡_, refl, sym, ap, ap₂, _∙_}
 use Prim.Native.Nat.{ℕ, zero, suc, _+_, _-_, _/_, _%_, _^_}
 use native.Mathlib.Omega.{arith}
+use Rattle.ints.specs.Visits.{VisitedOnce}
 use Rattle.grid.specs.Curve.{after, entered, inWhole, numberAt, cellAt, apart}
 use Rattle.grid.specs.declared.Cell.{Cell}
 use Rattle.grid.proofs.PlacesLaws.{one-cell}
 use Rattle.shapes.specs.Shapes.{Shape, ShapeA, ShapeB, ShapeC, ShapeD, partOf, placedAt, visit}
-use Rattle.shapes.specs.Claims.{OnSquare, cellCount, ShapeAIsQuadrantRule, turned, ShapesAreTurned, VisitedOnce, OneVisitPerCell, NeighboursShareASide}
+use Rattle.shapes.specs.Claims.{OnSquare, cellCount, ShapeAIsQuadrantRule, turned, ShapesAreTurned, OneVisitPerCell, NeighboursShareASide}
 use Rattle.shapes.proofs.Turns.{turned-on, turned-back, apart-turned}
 use Rattle.shapes.proofs.Squares.{twice}
 use Rattle.shapes.proofs.Curve as Curve
@@ -65,7 +66,7 @@ visit-on k f n = rw (shapes-are-turned k f n) (turned-on f (2 ^ k) (Curve.cell-o
 turned-visit : (k : ℕ) (f : Shape) (n : ℕ) → turned f (2 ^ k) (visit k f n) ≡ cellAt k n
 turned-visit k f n = ap (turned f (2 ^ k)) (shapes-are-turned k f n) ∙ turned-back f (2 ^ k) (Curve.cell-on k n)
 
-visited-once : (k : ℕ) (f : Shape) (c : Cell) → OnSquare (2 ^ k) c → VisitedOnce k f c
+visited-once : (k : ℕ) (f : Shape) (c : Cell) → OnSquare (2 ^ k) c → VisitedOnce (cellCount k) (visit k f) c
 visited-once k f c on =
     let s = 2 ^ k in
     let t = turned f s c in

@@ -2,6 +2,7 @@
 -- Assumes nothing.
 use mathlib.Core.Path.{_≡_}
 use Prim.Native.Nat.{ℕ, _+_, _-_, _*_, _^_, _<_}
+use Rattle.ints.specs.Visits.{VisitedOnce}
 use Rattle.grid.specs.Curve.{cell, numberAt, cellAt, apart}
 use Rattle.grid.specs.declared.Cell.{Cell}
 use Rattle.shapes.specs.Shapes.{Shape, ShapeA, ShapeB, ShapeC, ShapeD, visit}
@@ -34,17 +35,10 @@ turned ShapeD s c = cell (s - 1 - c .column) (s - 1 - c .row)
 abbrev pub ShapesAreTurned : Type 0
 ShapesAreTurned = (k : ℕ) (f : Shape) (n : ℕ) → visit k f n ≡ turned f (2 ^ k) (cellAt k n)
 
--- a cell is visited once
-pub record VisitedOnce (k : ℕ) (f : Shape) (c : Cell) : Type 0 where
-  pub number : ℕ
-  pub below : number < cellCount k
-  pub visits : visit k f number ≡ c
-  pub only : (n : ℕ) → n < cellCount k → visit k f n ≡ c → n ≡ number
-
--- every cell of the square is, and no cell off it
+-- every cell of the square is visited once, and no cell off it
 pub record VisitsSquare (k : ℕ) (f : Shape) : Type 0 where
   pub on-square : (n : ℕ) → OnSquare (2 ^ k) (visit k f n)
-  pub once : (c : Cell) → OnSquare (2 ^ k) c → VisitedOnce k f c
+  pub once : (c : Cell) → OnSquare (2 ^ k) c → VisitedOnce (cellCount k) (visit k f) c
 
 abbrev pub OneVisitPerCell : Type 0
 OneVisitPerCell = (k : ℕ) (f : Shape) → VisitsSquare k f
