@@ -15,6 +15,8 @@ use std::process::ExitCode;
 
 /// How often each call is measured.
 const RUNS: usize = 1_001;
+/// The same before that, so that the processor has come up to its speed.
+const WARMING: usize = 201;
 
 fn main() -> ExitCode {
     let Some(file) = std::env::args().nth(1) else {
@@ -22,6 +24,7 @@ fn main() -> ExitCode {
         println!("index and twin agree in {calls} calls");
         return ExitCode::SUCCESS;
     };
+    Bench { runs: WARMING }.all();
     let page = page::page(&Bench { runs: RUNS }.all(), RUNS);
     print!("{page}");
     match std::fs::write(&file, page) {
