@@ -10,13 +10,12 @@ mod measure;
 mod page;
 mod twin;
 
-use measure::Bench;
+use measure::{least, Bench};
 use std::process::ExitCode;
 
-/// How often each call is measured.
-const RUNS: usize = 1_001;
-/// The same before that, so that the processor has come up to its speed.
-const WARMING: usize = 201;
+/// How often each call is measured in a round, and how many rounds there are.
+const RUNS: usize = 201;
+const ROUNDS: usize = 5;
 
 fn main() -> ExitCode {
     let Some(file) = std::env::args().nth(1) else {
@@ -24,8 +23,8 @@ fn main() -> ExitCode {
         println!("index and twin agree in {calls} calls");
         return ExitCode::SUCCESS;
     };
-    Bench { runs: WARMING }.all();
-    let page = page::page(&Bench { runs: RUNS }.all(), RUNS);
+    let rounds: Vec<_> = (0..ROUNDS).map(|_| Bench { runs: RUNS }.all()).collect();
+    let page = page::page(&least(&rounds), ROUNDS, RUNS);
     print!("{page}");
     match std::fs::write(&file, page) {
         Ok(()) => ExitCode::SUCCESS,

@@ -98,6 +98,28 @@ impl Bench {
     }
 }
 
+/// The least of each call's medians over several rounds: one in which the machine
+/// was slow, as it may be at first, does not count.
+pub fn least(rounds: &[Vec<Times>]) -> Vec<Times> {
+    let first = rounds.first().into_iter().flatten();
+    let calls = first.enumerate().map(|(row, first)| {
+        let of = |time: fn(&Times) -> f64| {
+            let times = rounds.iter().map(|round| time(&round[row]));
+            times.fold(f64::INFINITY, f64::min)
+        };
+        Times {
+            call: first.call.clone(),
+            floats: first.floats,
+            index: of(|t| t.index),
+            twin: of(|t| t.twin),
+            pass: of(|t| t.pass),
+            exact_pass: of(|t| t.exact_pass),
+            scan: first.scan.map(|_| of(|t| t.scan.unwrap_or(f64::NAN))),
+        }
+    });
+    calls.collect()
+}
+
 fn check_same(call: &str, base: &Words, index: Act, twin: Act, scan: Option<Scan>) {
     let results = [index, twin].map(|act| {
         let mut words = base.clone();

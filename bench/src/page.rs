@@ -27,15 +27,17 @@ Fleets: floats anywhere in the sea, 49 in 50 with speeds up to 30 cm/s and the o
 evenly at the starts of the three live phases. Rectangles lie in the middle of the sea and are asked for an hour
 ahead. A phase change with all floats to move has them all in the phase that dies. Times are microseconds. All
 are measured in turn, on fresh copies of the buffers, so that a busy machine disturbs them alike; what counts are
-the ratios. Where a function lies moves its short loops by up to a half, so each, of the index and of the twin,
-is put at a multiple of 64 bytes; in another program it may lie elsewhere. A ratio in bold misses its goal.
+the ratios. Where a function lies in the program changes the time of its short loops by up to a half; so each, of
+the index and of the twin, is put at a multiple of 64 bytes. In a host's program it may lie elsewhere. A ratio in
+bold misses its goal.
 ";
 
-pub fn page(all: &[Times], runs: usize) -> String {
+pub fn page(all: &[Times], rounds: usize, runs: usize) -> String {
     let mut page = String::from(HEAD);
     let cores = std::thread::available_parallelism().map_or(1, usize::from);
     let machine = format!("{} on {}, {cores} cores", std::env::consts::ARCH, std::env::consts::OS);
-    let _ = writeln!(page, "\nMedians of {runs} runs. Machine: {machine}.");
+    let _ =
+        writeln!(page, "\nThe least of {rounds} medians, of {runs} runs each. Machine: {machine}.");
     if let Some(Times { pass, exact_pass, .. }) = all.first() {
         let _ = writeln!(page, "(b) takes {pass:.1}, the exact sum {exact_pass:.1}.\n");
     }

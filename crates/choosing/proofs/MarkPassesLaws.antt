@@ -1,4 +1,4 @@
--- The cells of a block as the loops pass them: the cells of a row from a column on, and the cells of the rows from a row on.
+-- The cells of a block as the loops that mark pass them: the cells of a row from a column on, and the cells of the rows from a row on.
 -- Assumes nothing.
 use mathlib.Core.Path.{_≡_}
 use mathlib.Core.List.{List, [], _∷_, _++_}

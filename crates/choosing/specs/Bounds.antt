@@ -42,7 +42,7 @@ pub record CanBoundAfter (k : ℕ) (table : List ℤ) (slot : ℕ) (b : Block) :
   pub of-block : CanBound table slot b
   pub of-its-cells : k ≤ cellCount b
 
--- the cells of a block's rows before a row
+-- how many cells the block's rows before a row have
 abbrev pub cellsBefore : Block → ℕ → ℕ
 cellsBefore b row = (row - b .«first_row») * columnsOf b
 

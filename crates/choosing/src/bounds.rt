@@ -30,7 +30,7 @@ fn count(first: usize, last: usize) -> usize
     last + 1 - first
 }
 
-// Goes on by the first n cells of a row, from the bounds after all cells of the rows before it.
+// The bounds after the first n cells of a row, from those after all cells of the block's rows before it.
 fn go_on_in_row(
     numbers: &[u16; grid::CELLS],
     table: &[i16],
@@ -57,7 +57,7 @@ fn go_on_in_row(
     bounds
 }
 
-// The bounds of the rows of a block's first k cells, for every k: one pass, row by row from the low corner, each cell once.
+// The bounds of the rows of a block's first k cells, for every k up to their number: one pass, row by row from the low corner, each cell once.
 pub fn bounds_after(k: usize, table: &[i16], slot: usize, b: Block) -> Row
     requires { ⌜ CanBoundAfter k (now table) slot b ⌝ }
     ensures { λ r. ⌜ r ≡ boundsAfter k (rowsOfSlot (now (table .entry)) slot) b ⌝ }

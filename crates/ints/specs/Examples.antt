@@ -1,4 +1,4 @@
--- A case worked out on paper: what the definitions give, and what the document says. That they agree is for antt to compute.
+-- A case that a document gives or that was worked out by hand: what the definitions give, and what is said. That they agree is for antt to compute.
 -- Assumes nothing.
 use mathlib.Core.Path.{_≡_}
 use mathlib.Core.List.{List, map}

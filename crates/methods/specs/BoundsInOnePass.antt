@@ -24,8 +24,8 @@ cellCount b = rowsOf b * columnsOf b
 abbrev pub visited : Block → ℕ → Cell
 visited b n = getD (cellsOf b) n (cell 0 0)
 
--- as many visits as cells; after i rows of cells and j cells more that of column j and row i, both counted from the low corner; none outside the block;
--- each of its cells once
+-- as many visits as cells; after i whole rows and j cells more comes the cell of column j and row i, both counted from the low corner; no cell outside
+-- the block is visited, and each of its own once
 pub record RowByRow (b : Block) : Type 0 where
   pub as-many : length (cellsOf b) ≡ cellCount b
   pub in-turn : (i j : ℕ) → i < rowsOf b → j < columnsOf b → visited b (i * columnsOf b + j) ≡ cell (b .«first_column» + j) (b .«first_row» + i)
