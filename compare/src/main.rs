@@ -91,7 +91,8 @@ fn serve_ledger() {
 
 fn print_chart() {
     for row in 0..SIDE {
-        let line: String = (0..SIDE).map(|column| format!("{:5}", curve_number(row * SIDE + column))).collect();
+        let line: String =
+            (0..SIDE).map(|column| format!("{:5}", curve_number(row * SIDE + column))).collect();
         println!("{line}");
     }
 }
