@@ -11,7 +11,7 @@ use native.Mathlib.Omega.{arith}
 use lib.IntN.{ℤ}
 use Rattle.grid.specs.Units.{cells}
 use Rattle.grid.specs.Places.{OnGrid}
-use Rattle.grid.specs.Curve.{cell, curveNumber, cellOfNumber}
+use Rattle.grid.specs.Curve.{IsCurve, cell, curveNumber, cellOfNumber}
 use Rattle.grid.proofs.CurveLaws.{cell-on-grid, number-of-its-cell, number-below}
 use Rattle.rows.specs.Row.{emptyRow, joined, boundsOf}
 use Rattle.rows.specs.Table.{rowAt, slotRows}
@@ -26,7 +26,7 @@ use Rattle.methods.specs.Claims.{ValidRows}
 use Rattle.methods.specs.declared.Block.{Block}
 use Rattle.methods.proofs.Blocks.{grid-has, within-grid-on}
 use Rattle.methods.proofs.BoundsInOnePass.{blocks-are-visited-row-by-row, after-none, after-one-more}
-use Rattle.choosing.specs.Bounds.{IsSlot, BlockOnGrid, cellsBefore}
+use Rattle.choosing.specs.Bounds.{IsSlot, BlockOnGrid, CanBoundAfter, cellsBefore, CanGoOn}
 
 -- ---- the pass over a block
 
@@ -77,6 +77,27 @@ row-more b row h =
 
 pub bounds-so-far : (rows : Rows) (b : Block) {r : Row} {k n : ℕ} → r ≡ boundsAfter k rows b → k ≡ n → r ≡ boundsAfter n rows b
 bounds-so-far rows b e p = e ∙ ap (λ (k : ℕ). boundsAfter k rows b) p
+
+-- of the cells left, the pass can go on by some that lie in one row
+pub can-go-on :
+    {numbers : List ℕ} {table : List ℤ} {slot : ℕ} {b : Block} {k row left n : ℕ} {before : Row}
+    → IsCurve numbers
+    → CanBoundAfter k table slot b
+    → b .«first_row» ≤ row
+    → cellsBefore b row + left ≡ k
+    → before ≡ boundsAfter (cellsBefore b row) (rowsOfSlot table slot) b
+    → n ≤ columnsOf b
+    → n ≤ left
+    → CanGoOn numbers table slot b row n before
+can-go-on curve can from-first so-many so-far in-row few =
+    record {
+      curve = curve;
+      of-block = can .of-block;
+      from-first = from-first;
+      in-row = in-row;
+      of-its-cells = omega (arith, can .of-its-cells);
+      so-far = so-far;
+    }
 
 -- ---- the rows of a slot
 

@@ -8,7 +8,7 @@ use denote.Ref.{now}
 use Rattle.methods.specs.BoundsInOnePass.{boundsAfter}
 use Rattle.methods.specs.Slots.{rowsOfSlot}
 use Rattle.choosing.specs.Bounds.{cellsBefore}
-use Rattle.choosing.proofs.BoundsLaws.{has-column, is-row, no-row, bounds-at-first, row-more, bounds-so-far}
+use Rattle.choosing.proofs.BoundsLaws.{has-column, is-row, no-row, bounds-at-first, row-more, bounds-so-far, can-go-on}
 use borrow.Author.Needs.{needs}
 use Rattle.choosing.proofs.bounds.bounds_after.Statement.{statement}
 use Rattle.choosing.proofs.bounds.bounds_after.Tie as tie
@@ -38,15 +38,8 @@ go-on-in-row-requires : tie.Need-go-on-in-row-requires Inv-loop μ-loop
 go-on-in-row-requires c κs =
     let h = c .before .before in
     let columns = h .before .before in
-    let a = columns .before .before in
-    record {
-      curve = columns .before .curve-numbers .ensures;
-      of-block = a .pre .of-block;
-      from-first = h .loop .inv .0;
-      in-row = omega (arith, columns .count .ensures);
-      of-its-cells = omega (arith, h .loop .inv .1, a .pre .of-its-cells);
-      so-far = h .loop .inv .2;
-    }
+    let i = h .loop .inv in
+    can-go-on (columns .before .curve-numbers .ensures) (columns .before .before .pre) (i .0) (i .1) (i .2) (omega (arith, columns .count .ensures)) (omega arith)
 
 add-row : tie.Need-add-row Inv-loop μ-loop
 add-row c =
@@ -80,15 +73,8 @@ go-on-in-row-requires-2 : tie.Need-go-on-in-row-requires-2 Inv-loop μ-loop
 go-on-in-row-requires-2 c κs =
     let h = c .before .before in
     let columns = h .before .before in
-    let a = columns .before .before in
-    record {
-      curve = columns .before .curve-numbers .ensures;
-      of-block = a .pre .of-block;
-      from-first = h .loop .inv .0;
-      in-row = omega (arith, columns .count .ensures);
-      of-its-cells = omega (arith, h .loop .inv .1, a .pre .of-its-cells);
-      so-far = h .loop .inv .2;
-    }
+    let i = h .loop .inv in
+    can-go-on (columns .before .curve-numbers .ensures) (columns .before .before .pre) (i .0) (i .1) (i .2) (omega (arith, columns .count .ensures)) (omega arith)
 
 returns : tie.Need-returns Inv-loop μ-loop
 returns c =
