@@ -1,5 +1,5 @@
 /* Opens the index, adds two floats, asks where they are an hour later by each
- * method, and shows two refusals. */
+ * method and who comes by in a window, and shows two refusals. */
 #include "float_index.h"
 
 #include <stdio.h>
@@ -29,6 +29,14 @@ static float_index_reply ask(int32_t method, size_t ids)
                            ids, method, 3600, 400000, 0, 500000, 200000);
 }
 
+/* Asks for the same rectangle at any moment from time 0 to 2,000. */
+static float_index_reply ask_window(int32_t method)
+{
+    return float_index_ask_window(store, FLOAT_INDEX_STORE_WORDS, table, FLOAT_INDEX_TABLE_NUMBERS,
+                                  list, FLOAT_INDEX_MOST_HELD, method, 0, 2000, 400000, 0, 500000,
+                                  200000);
+}
+
 int main(void)
 {
     const size_t words = FLOAT_INDEX_STORE_WORDS, numbers = FLOAT_INDEX_TABLE_NUMBERS;
@@ -39,6 +47,7 @@ int main(void)
     print_change("add 9", float_index_add(store, words, table, numbers, 9, 0, 600000, 100000, -50, 0));
     for (int32_t method = FLOAT_INDEX_NAIVE; method <= FLOAT_INDEX_OPTIMAL; method++)
         print_ask(methods[method], ask(method, FLOAT_INDEX_MOST_HELD));
+    print_ask("window", ask_window(FLOAT_INDEX_OPTIMAL));
     print_ask("list of one id", ask(FLOAT_INDEX_OPTIMAL, 1));
     print_change("drop 7", float_index_drop(store, words, table, numbers, 7, 10));
     print_change("drop 7", float_index_drop(store, words, table, numbers, 7, 20));

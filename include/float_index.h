@@ -15,9 +15,10 @@
  *   numbers as the length says, each of them written once before.
  * - Lengths count numbers, not bytes.
  * - Store, table and list do not overlap, and nobody writes them during a call.
- *   Calls that only read a store and a table (float_index_ask and
- *   float_index_is_sound) may share these between threads; each ask has its own
- *   list. Calls on other buffers may run at the same time.
+ *   Calls that only read a store and a table (float_index_ask,
+ *   float_index_ask_window and float_index_is_sound) may share these between
+ *   threads; each ask has its own list. Calls on other buffers may run at the
+ *   same time.
  * - A call needs up to FLOAT_INDEX_STACK_BYTES of stack. */
 #ifndef FLOAT_INDEX_H
 #define FLOAT_INDEX_H
@@ -44,9 +45,13 @@ extern "C" {
 #define FLOAT_INDEX_LAST_POSITION 8388607
 #define FLOAT_INDEX_TOP_SPEED 500
 
-/* An ask's time is from now less the first to now plus the second. */
+/* An ask's time is from now less the first to now plus the second, and so are
+ * both times of a window ask. */
 #define FLOAT_INDEX_ASK_BEFORE 3600
 #define FLOAT_INDEX_ASK_AFTER 7200
+
+/* A window's last time is at most so much after its first. */
+#define FLOAT_INDEX_LONGEST_WINDOW 3600
 
 /* Stack that a call may need. */
 #define FLOAT_INDEX_STACK_BYTES 262144
@@ -59,13 +64,14 @@ enum {
     FLOAT_INDEX_OPTIMAL = 3
 };
 
-/* The numbers that a call gives back. Checks run in this order; the first to
- * fail is given. */
+/* The numbers that a call gives back. Checks run in the order in which they
+ * stand here; the first to fail is given. A window ask is an ask. */
 enum {
     FLOAT_INDEX_ACCEPTED = 0,
     FLOAT_INDEX_WRONG_LENGTH = 1,  /* store or table has another length */
     FLOAT_INDEX_UNSOUND = 2,       /* store or table unsound (not for open) */
     FLOAT_INDEX_BAD_TIME = 3,      /* out of range, below now, or, for an ask, too far from now */
+    FLOAT_INDEX_BAD_WINDOW = 10,   /* window ask: last time before the first, or over an hour after it */
     FLOAT_INDEX_BAD_NUMBER = 4,    /* id, position, speed, method or corner out of range; low above high */
     FLOAT_INDEX_ALREADY_HELD = 5,  /* add: the id is held */
     FLOAT_INDEX_NOT_HELD = 6,      /* report, drop: the id is not held */
@@ -117,6 +123,16 @@ float_index_reply float_index_ask(const int32_t *store, size_t store_words, cons
                                   size_t table_numbers, uint16_t *list, size_t list_ids,
                                   int32_t method, int32_t asked, int32_t low_x, int32_t low_y,
                                   int32_t high_x, int32_t high_y);
+
+/* The held floats predicted inside a rectangle at some moment from the first time
+ * to the last, on both axes at that same moment, edges and fractions of a second
+ * included. With first equal to last it is float_index_ask at that time. All
+ * else is as there. */
+float_index_reply float_index_ask_window(const int32_t *store, size_t store_words,
+                                         const int16_t *table, size_t table_numbers,
+                                         uint16_t *list, size_t list_ids, int32_t method,
+                                         int32_t first, int32_t last, int32_t low_x, int32_t low_y,
+                                         int32_t high_x, int32_t high_y);
 
 /* Whether store and table have their lengths and are sound: no call refuses
  * them with 1 or 2. Both are only read. */

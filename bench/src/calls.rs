@@ -1,18 +1,19 @@
 //! The calls that are measured.
 
 use crate::fleet::{fleet, float, time_in};
-use crate::measure::{Bench, Times};
-use crate::page::SOUNDNESS;
-use crate::twin;
+use crate::measure::{Act, Bench, Times};
+use crate::page::{ASK, SOUNDNESS, WINDOW};
+use crate::twin::{self, At, During, When};
 use buffers::{Words, HELD, NOW, WIDTH};
-use float_index::{Rectangle, Reply, Report, LAST_POSITION, MOST_HELD};
+use float_index::{Rectangle, Reply, Report, LAST_POSITION, LONGEST_WINDOW, MOST_HELD};
 
 const FLEETS: [usize; 3] = [10, 100, MOST_HELD];
 const METHODS: [&str; 4] = ["naive", "semi-naive", "iterative", "optimal"];
 const WHOLE_SEA: i32 = LAST_POSITION + 1;
 /// The sides of the asked rectangles.
 const SIDES: [i32; 3] = [WIDTH, 1_000_000, WHOLE_SEA];
-const HOUR: i32 = 3_600;
+/// How far ahead asks look, and how long windows are.
+const HOUR: i32 = LONGEST_WINDOW;
 
 /// A call that changes the buffers, by its numbers.
 type Change<N> = fn(&mut Words, N) -> Reply;
@@ -29,9 +30,21 @@ impl Bench {
         all.extend(FLEETS.map(|floats| self.add(floats)));
         all.extend(fleets.iter().map(|words| self.report(words)));
         all.extend(fleets.iter().map(|words| self.drop(words)));
-        for (method, name) in METHODS.into_iter().enumerate() {
+        all.extend(self.each_ask(&fleets, Bench::ask));
+        all.extend(self.each_ask(&fleets, Bench::window));
+        all
+    }
+
+    /// An ask of one kind by each method, for each side, of each fleet.
+    fn each_ask(
+        &self,
+        fleets: &[Words],
+        ask: fn(&Bench, &Words, usize, i32) -> Times,
+    ) -> Vec<Times> {
+        let mut all = Vec::new();
+        for method in 0..METHODS.len() {
             for side in SIDES {
-                all.extend(fleets.iter().map(|words| self.ask(words, method as i32, name, side)));
+                all.extend(fleets.iter().map(|words| ask(self, words, method, side)));
             }
         }
         all
@@ -97,21 +110,55 @@ impl Bench {
     }
 
     /// An ask for the middle of the sea, an hour ahead.
-    fn ask(&self, base: &Words, method: i32, name: &str, side: i32) -> Times {
-        let low = (WHOLE_SEA - side) / 2;
-        let high = low + side - 1;
-        let q = Rectangle { low_x: low, low_y: low, high_x: high, high_y: high };
+    fn ask(&self, base: &Words, method: usize, side: i32) -> Times {
+        let (number, q) = (method as i32, middle(side));
         let t = base.store[NOW] + HOUR;
         let index = move |w: &mut Words, list: &mut [u16]| {
-            float_index::ask(&w.store, &w.table, list, method, t, q)
+            float_index::ask(&w.store, &w.table, list, number, t, q)
         };
-        let twin = move |w: &mut Words, list: &mut [u16]| twin::ask(w, list, method, t, q);
-        let scan = move |w: &Words, list: &mut [u16]| twin::scan(w, list, t, q);
-        let name = match side {
-            WHOLE_SEA => format!("ask, {name}, whole sea"),
-            _ => format!("ask, {name}, side {side}"),
+        self.beside(ask_name(ASK, method, side), base, &index, number, At(t.into()), q)
+    }
+
+    /// A window ask for the middle of the sea, from now for an hour.
+    fn window(&self, base: &Words, method: usize, side: i32) -> Times {
+        let (number, q) = (method as i32, middle(side));
+        let first = base.store[NOW];
+        let last = first + HOUR;
+        let index = move |w: &mut Words, list: &mut [u16]| {
+            float_index::ask_window(&w.store, &w.table, list, number, first, last, q)
         };
-        self.times(name, base, &index, &twin, Some(&scan))
+        let when = During(first.into(), last.into());
+        self.beside(ask_name(WINDOW, method, side), base, &index, number, when, q)
+    }
+
+    /// An ask of the index beside the twin's and a linear scan.
+    fn beside(
+        &self,
+        name: String,
+        base: &Words,
+        index: Act,
+        number: i32,
+        when: impl When,
+        q: Rectangle,
+    ) -> Times {
+        let twin = move |w: &mut Words, list: &mut [u16]| twin::ask(w, list, number, when, q);
+        let scan = move |w: &Words, list: &mut [u16]| twin::scan(w, list, when, q);
+        self.times(name, base, index, &twin, Some(&scan))
+    }
+}
+
+/// The square of a side in the middle of the sea.
+fn middle(side: i32) -> Rectangle {
+    let low = (WHOLE_SEA - side) / 2;
+    let high = low + side - 1;
+    Rectangle { low_x: low, low_y: low, high_x: high, high_y: high }
+}
+
+fn ask_name(kind: &str, method: usize, side: i32) -> String {
+    let method = METHODS[method];
+    match side {
+        WHOLE_SEA => format!("{kind}, {method}, whole sea"),
+        _ => format!("{kind}, {method}, side {side}"),
     }
 }
 

@@ -3,13 +3,18 @@
 use crate::measure::Times;
 use std::fmt::Write;
 
-/// The goals: how many times the twin's time a call may take, and how many
-/// times one pass the soundness test.
+/// The goals: how many times the twin's time a call may take, how many times one
+/// pass the soundness test, and how many times the ask at one time a window ask.
 const OVER_TWIN: f64 = 1.2;
 const OVER_PASS: f64 = 3.0;
+const OVER_ASK: f64 = 2.0;
 
 /// The call that the second goal is about.
 pub const SOUNDNESS: &str = "soundness test";
+/// The calls that the third goal is about: how the names of their rows begin, which
+/// go on alike.
+pub const ASK: &str = "ask";
+pub const WINDOW: &str = "window ask";
 
 const HEAD: &str = "\
 # Benchmarks
@@ -21,15 +26,16 @@ Written by `bench/run`, which builds the proved library and measures it in one r
   and puts them in as one run;
 - (b) one pass over the 53 KB of lent memory, the fastest that looks at each number once: their sum in their own
   width. The exact sum, in 64 bits, is a slower pass; its time is named too, and the goal goes by the faster one;
-- (c) for asks, a linear scan of the records without any check, its ids sorted.
+- (c) for asks, a linear scan of the records without any check, its ids sorted;
+- (d) for window asks, the index's own ask at one time by the same method, of the same rectangle and fleet.
 
 Fleets: floats anywhere in the sea, 49 in 50 with speeds up to 30 cm/s and the others up to 500 cm/s, reported
 evenly at the starts of the three live phases. Rectangles lie in the middle of the sea and are asked for an hour
-ahead. A phase change with all floats to move has them all in the phase that dies. Times are microseconds. All
-are measured in turn, on fresh copies of the buffers, so that a busy machine disturbs them alike; what counts are
-the ratios. Where a function lies in the program changes the time of its short loops by up to a half; so each, of
-the index and of the twin, is put at a multiple of 64 bytes. In a host's program it may lie elsewhere. A ratio in
-bold misses its goal.
+ahead, or by a window ask for the hour from now on. A phase change with all floats to move has them all in the
+phase that dies. Times are microseconds. All are measured in turn, on fresh copies of the buffers, so that a
+busy machine disturbs them alike; what counts are the ratios. Where a function lies in the program changes the
+time of its short loops by up to a half; so each, of the index and of the twin, is put at a multiple of 64
+bytes. In a host's program it may lie elsewhere. A ratio in bold misses its goal.
 ";
 
 pub fn page(all: &[Times], rounds: usize, runs: usize) -> String {
@@ -41,12 +47,13 @@ pub fn page(all: &[Times], rounds: usize, runs: usize) -> String {
     if let Some(Times { pass, exact_pass, .. }) = all.first() {
         let _ = writeln!(page, "(b) takes {pass:.1}, the exact sum {exact_pass:.1}.\n");
     }
-    page += "| call | floats | index | (a) twin | index / (a) | index / (b) | (c) scan | index / (c) |\n";
-    page += "|---|---:|---:|---:|---:|---:|---:|---:|\n";
-    all.iter().for_each(|times| page += &line(times));
+    page += "| call | floats | index | (a) twin | index / (a) | index / (b) | (c) scan | index / (c) | index / (d) |\n";
+    page += "|---|---:|---:|---:|---:|---:|---:|---:|---:|\n";
+    all.iter().for_each(|times| page += &line(all, times));
     page += "\n## Goals\n\n";
     page += &goal_twin(all);
     page += &goal_pass(all);
+    page += &goal_window(all);
     page += &goal_growth(all);
     page
 }
@@ -67,15 +74,24 @@ fn goal_for_pass(t: &Times) -> f64 {
     }
 }
 
-fn line(t: &Times) -> String {
+/// How many times the ask at one time a window ask takes.
+fn over_ask(all: &[Times], t: &Times) -> Option<f64> {
+    let name = format!("{ASK}{}", t.call.strip_prefix(WINDOW)?);
+    let ask = all.iter().find(|ask| ask.call == name && ask.floats == t.floats)?;
+    Some(t.index / ask.index)
+}
+
+fn line(all: &[Times], t: &Times) -> String {
     let over_twin = ratio(t.index / t.twin, OVER_TWIN, 2);
     let over_pass = ratio(t.index / t.pass, goal_for_pass(t), 1);
     let scan = match t.scan {
         Some(scan) => format!("{scan:.2} | {:.0}", t.index / scan),
         None => "|".into(),
     };
+    let over_ask = over_ask(all, t).map_or(String::new(), |over| ratio(over, OVER_ASK, 2) + " ");
     let (call, floats, index, twin) = (&t.call, t.floats, t.index, t.twin);
-    format!("| {call} | {floats} | {index:.1} | {twin:.1} | {over_twin} | {over_pass} | {scan} |\n")
+    let times = format!("{index:.1} | {twin:.1} | {over_twin} | {over_pass} | {scan}");
+    format!("| {call} | {floats} | {times} | {over_ask}|\n")
 }
 
 /// A goal's line: met, or missed, with the worst case.
@@ -110,6 +126,12 @@ fn goal_pass(all: &[Times]) -> String {
         .map(|t| format!("{:.1} times with {} floats", t.index / t.exact_pass, t.floats))
         .collect();
     format!("{line}  Against the exact sum: {}.\n", exact.join(", "))
+}
+
+fn goal_window(all: &[Times]) -> String {
+    let ratios = all.iter().filter_map(|t| Some((over_ask(all, t)?, name(t))));
+    let missed = ratios.filter(|(ratio, _)| *ratio > OVER_ASK);
+    goal("A window ask of an hour at most 2 times (d)", missed.collect())
 }
 
 /// From one fleet to the next a call may take as many times longer as there

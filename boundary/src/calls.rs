@@ -25,11 +25,12 @@ impl Setting {
         Setting { now: ledger.now(), floats: ledger.reports().copied().collect() }
     }
 
-    /// Any call; a sixth of them has a number that is spoiled.
+    /// Any call; a sixth of them has a number that is spoiled, or two of them.
     pub fn call(&self, dice: &mut Dice) -> Call {
-        let letter = dice.pick(b"OCCAAUUDDQQQQ");
+        let letter = dice.pick(b"OCCAAUUDDQQQQWWWW");
         let mut numbers = self.numbers(dice, letter);
-        if dice.chance(160) {
+        let spoiled = if dice.chance(160) { dice.range(1, 2) } else { 0 };
+        for _ in 0..spoiled {
             let place = dice.below(numbers.len());
             numbers[place] = self.spoiled(dice, letter, &numbers, place);
         }
@@ -39,6 +40,12 @@ impl Setting {
     /// A call that changes the index and is most likely accepted.
     pub fn change(&self, dice: &mut Dice) -> Call {
         let letter = dice.pick(b"CAAAUUD");
+        call(letter, &self.numbers(dice, letter)).expect("a letter and its numbers")
+    }
+
+    /// An ask or a window ask, all its numbers in range.
+    pub fn ask(&self, dice: &mut Dice) -> Call {
+        let letter = dice.pick(b"QW");
         call(letter, &self.numbers(dice, letter)).expect("a letter and its numbers")
     }
 
@@ -56,9 +63,9 @@ impl Setting {
             b'O' => vec![dice.range(0, LAST_TIME)],
             b'C' => vec![self.later(dice)],
             b'D' => vec![self.id(dice, false), self.later(dice)],
-            b'Q' => {
+            b'Q' | b'W' => {
                 let method = dice.range(0, LAST_METHOD);
-                [&[method], &ask(dice, self.now, |dice| self.float(dice))[..]].concat()
+                [&[method], &ask(dice, self.now, letter, |dice| self.float(dice))[..]].concat()
             }
             _ => {
                 let (id, t) = (self.id(dice, letter == b'A'), self.later(dice));

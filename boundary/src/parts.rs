@@ -27,7 +27,7 @@ const fn part(first_seed: u64, runs: u64, act: fn(&mut Run) -> Tried, name: &'st
 pub const LISTS: Part = part(8_000, 16, Run::list, "lists of calls");
 
 /// The parts, those that find most first.
-pub const PARTS: [Part; 9] = [
+pub const PARTS: [Part; 10] = [
     part(5_000, 8, Run::flaws, "one clause broken, all else consistent"),
     part(7_000, 8, Run::sound_words, "sound words that no list need lead to"),
     LISTS,
@@ -41,6 +41,12 @@ pub const PARTS: [Part; 9] = [
         "every length of the table, up to 120 past its own",
     ),
     part(2_000, 2, Run::both_lengths, "both lengths wrong, or nearly"),
+    part(
+        9_000,
+        LENGTH_RUNS,
+        Run::list_lengths,
+        "every length of an ask's list, up to 120 past the most ids",
+    ),
     part(6_000, 4, Run::random_words, "random words"),
 ];
 
@@ -116,6 +122,15 @@ impl Run {
             let table = self.dice.pick(&[0, 1, 4, t - 1, t, t + 1, s, any[1]]);
             let (store, table) = (words.store[..store].to_vec(), words.table[..table].to_vec());
             self.try_any(&Words { store, table }, &setting)?;
+        }
+        Ok(())
+    }
+
+    fn list_lengths(&mut self) -> Tried {
+        let (words, setting) = self.base();
+        for length in self.lengths(MOST_HELD + PAST) {
+            let ask = setting.ask(&mut self.dice);
+            self.trial.call(&words, &ask, length)?;
         }
         Ok(())
     }

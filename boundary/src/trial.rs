@@ -1,14 +1,14 @@
 //! One buffer tried: lent to a call, and the reply and all three buffers
-//! afterwards compared with what document 01 says.
+//! afterwards compared with what documents 01 and 02 say.
 
 use crate::ledgers::{read, small, told, write};
 use crate::sound::Sound;
 use buffers::Words;
 use float_index::{refusal, Rectangle, Reply};
-use plain_ledger::ledger::{Answer, Call, Ledger};
+use plain_ledger::ledger::{Answer, Call, Ledger, When};
 use plain_ledger::methods::Wrong;
 
-/// The rules that the index is compared with: document 01's, or wrong ones.
+/// The rules that the index is compared with: the documents', or wrong ones.
 #[derive(Clone, Copy)]
 pub struct Rules {
     pub sound: Sound,
@@ -61,8 +61,10 @@ struct Expected {
     ids: Vec<u16>,
 }
 
-/// A count for each number that a call gives.
-pub type Given = [usize; refusal::LIST_TOO_SHORT + 1];
+/// A count for each number that a call gives, up to the greatest.
+pub type Given = [usize; refusal::BAD_WINDOW + 1];
+/// The number below the greatest that no call gives: a line's that is no call.
+pub const NO_CALL: usize = 9;
 
 pub struct Trial {
     rules: Rules,
@@ -145,7 +147,7 @@ impl Trial {
         let reply = run(call, self.store.lend(), self.table.lend(), self.list.lend());
         ids[..expected.ids.len()].copy_from_slice(&expected.ids);
         let after = expected.words.as_ref().unwrap_or(before);
-        self.given[reply.number.min(refusal::LIST_TOO_SHORT)] += 1;
+        self.given[reply.number.min(refusal::BAD_WINDOW)] += 1;
         let what = if reply != expected.reply {
             format!("reply {reply:?}, expected {:?}", expected.reply)
         } else if !self.store.holds(&after.store) {
@@ -193,7 +195,14 @@ fn run(call: &Call, store: &mut [i32], table: &mut [i16], list: &mut [u16]) -> R
             let [low_x, low_y] = ask.rectangle.low.map(small);
             let [high_x, high_y] = ask.rectangle.high.map(small);
             let rectangle = Rectangle { low_x, low_y, high_x, high_y };
-            float_index::ask(store, table, list, small(ask.method), small(ask.time), rectangle)
+            let method = small(ask.method);
+            let [first, last] = ask.when.ends().map(small);
+            match ask.when {
+                When::At(_) => float_index::ask(store, table, list, method, first, rectangle),
+                When::During { .. } => {
+                    float_index::ask_window(store, table, list, method, first, last, rectangle)
+                }
+            }
         }
     }
 }

@@ -3,7 +3,7 @@
 
 use crate::ledger::Report;
 use crate::limits::{ASK_AFTER, ASK_BEFORE, LAST_ID, LAST_METHOD, LAST_TIME};
-use crate::limits::{PHASE, SEA, SIDE, TOP_SPEED, WIDTH};
+use crate::limits::{LONGEST_WINDOW, PHASE, SEA, SIDE, TOP_SPEED, WIDTH};
 use crate::lines::{GREATEST, LEAST};
 use dice::Dice;
 
@@ -114,30 +114,108 @@ fn graded(dice: &mut Dice, any: i64, t: i64) -> (i64, i64) {
     (at.clamp(0, SEA), speed)
 }
 
-/// An ask's time and corners, all in range; many rectangles lie about the place
-/// that a float has then.
-pub fn ask(dice: &mut Dice, now: i64, float: impl Fn(&mut Dice) -> Option<Report>) -> [i64; 5] {
-    let (first, last) = (now - ASK_BEFORE, now + ASK_AFTER);
+/// From the earliest time that may be asked for to the latest.
+fn askable(now: i64) -> [i64; 2] {
+    [(now - ASK_BEFORE).max(0), (now + ASK_AFTER).min(LAST_TIME)]
+}
+
+/// A time that may be asked for.
+fn asked(dice: &mut Dice, now: i64) -> i64 {
+    let [earliest, latest] = askable(now);
     let border = now / PHASE * PHASE + PHASE * dice.range(-2, 2);
     let time = match dice.range(0, 7) {
         0 => now,
-        1 => first,
-        2 => last,
+        1 => earliest,
+        2 => latest,
         3 => border + dice.range(-1, 1),
-        4 | 5 => dice.range(first, now),
-        _ => dice.range(now, last),
+        4 | 5 => dice.range(earliest, now),
+        _ => dice.range(now, latest),
     };
-    let time = time.clamp(first.max(0), last.min(LAST_TIME));
-    let target = float(dice).map(|float| float.position(time));
+    time.clamp(earliest, latest)
+}
+
+/// The numbers after the method of an ask (`Q`) or a window ask (`W`), all in range.
+pub fn ask(
+    dice: &mut Dice,
+    now: i64,
+    letter: u8,
+    float: impl Fn(&mut Dice) -> Option<Report>,
+) -> Vec<i64> {
+    let float = float(dice);
+    match letter {
+        b'W' => window(dice, now, float),
+        _ => timeslice(dice, now, float),
+    }
+}
+
+/// Many rectangles lie about the place that the float has then.
+fn timeslice(dice: &mut Dice, now: i64, float: Option<Report>) -> Vec<i64> {
+    let time = asked(dice, now);
+    let target = float.map(|float| float.position(time));
+    [&[time], &corners(dice, target)[..]].concat()
+}
+
+/// Many rectangles lie about a place that the float has in that window, or beside
+/// its path.
+fn window(dice: &mut Dice, now: i64, float: Option<Report>) -> Vec<i64> {
+    let [earliest, latest] = askable(now);
+    let any = dice.range(0, LONGEST_WINDOW);
+    let length = dice.pick(&[any, any, any, 0, 1, 2, 60, LONGEST_WINDOW]);
+    let first = asked(dice, now).min(latest - length).max(earliest);
+    let last = (first + length).min(latest);
+    let time = dice.range(first, last);
+    let kind = dice.range(0, 9);
+    let corners = match float {
+        Some(float) if kind < 3 => touched(dice, &float, time),
+        Some(float) if kind < 6 => crossed(dice, &float, time),
+        _ => corners(dice, float.map(|float| float.position(time))),
+    };
+    [&[first, last], &corners[..]].concat()
+}
+
+/// Corners about an aim, or anywhere.
+fn corners(dice: &mut Dice, aim: Option<[i64; 2]>) -> [i64; 4] {
     let kind = dice.range(0, 19);
     let strip = dice.range(0, 2);
-    let [x, y] = [0, 1].map(|axis| {
-        let aim = target.map(|at| at[axis]);
-        let (from, to) = span(dice, kind, aim, strip == axis as i64);
+    let spans = [0, 1].map(|axis| span(dice, kind, aim.map(|at| at[axis]), strip == axis as i64));
+    in_sea(spans)
+}
+
+/// The corners of a rectangle that goes from one number to another on each axis,
+/// drawn into the sea.
+fn in_sea(spans: [(i64, i64); 2]) -> [i64; 4] {
+    let [x, y] = spans.map(|(from, to)| {
         let low = from.clamp(0, SEA);
         (low, to.clamp(low, SEA))
     });
-    [time, x.0, y.0, x.1, y.1]
+    [x.0, y.0, x.1, y.1]
+}
+
+/// A rectangle of which the float passes one corner at this time, through it or a
+/// centimetre beside it: on one axis it lies ahead, on the other behind.
+fn touched(dice: &mut Dice, float: &Report, time: i64) -> [i64; 4] {
+    let at = float.position(time);
+    let ahead = dice.below(2);
+    in_sea([0, 1].map(|axis| {
+        let edge = at[axis] + dice.pick(&[-1, 0, 0, 0, 1]);
+        let side = dice.pick(&[0, 1, 700, WIDTH]);
+        match (float.speed[axis] >= 0) == (axis == ahead) {
+            true => (edge, edge + side),
+            false => (edge - side, edge),
+        }
+    }))
+}
+
+/// A small rectangle on the float's path or close to it, between this second and
+/// the next.
+fn crossed(dice: &mut Dice, float: &Report, time: i64) -> [i64; 4] {
+    const PARTS: i64 = 1_000;
+    let at = float.position(time);
+    let part = dice.range(0, PARTS);
+    in_sea([0, 1].map(|axis| {
+        let near = at[axis] + (float.speed[axis] * part).div_euclid(PARTS);
+        (near - dice.range(0, 2), near + dice.range(-1, 2))
+    }))
 }
 
 /// Where a rectangle of a kind begins and ends on one axis, the whole of which
@@ -174,19 +252,36 @@ fn span(dice: &mut Dice, kind: i64, aim: Option<i64>, strip: bool) -> (i64, i64)
 /// out.
 pub fn spoiled(dice: &mut Dice, now: i64, letter: u8, numbers: &[i64], place: usize) -> i64 {
     let far = dice.pick(&[-1, LEAST, GREATEST]);
-    let (first, last) = (now - ASK_BEFORE, now + ASK_AFTER);
-    let time = match letter {
-        b'Q' => dice.pick(&[first - 1, first, last, last + 1, far]),
-        _ => dice.pick(&[now - 1, now, 0, LAST_TIME + 1, far]),
-    };
     let corner = dice.pick(&[-1, 0, SEA, SEA + 1, far]);
     match (letter, place) {
         (b'O', _) => dice.pick(&[-1, LAST_TIME, LAST_TIME + 1, far]),
-        (b'C', _) | (_, 1) => time,
-        (b'Q', 0) => dice.pick(&[-1, 0, LAST_METHOD, LAST_METHOD + 1, far]),
+        (b'W', 1 | 2) => spoiled_end(dice, now, numbers, place, far),
+        (b'Q', 1) => spoiled_asked(dice, now, far),
+        (b'C', _) | (_, 1) => dice.pick(&[now - 1, now, 0, LAST_TIME + 1, far]),
+        (b'Q' | b'W', 0) => dice.pick(&[-1, 0, LAST_METHOD, LAST_METHOD + 1, far]),
         (_, 0) => dice.pick(&[-1, 0, 1, LAST_ID, LAST_ID + 1, far]),
-        (b'Q', 4 | 5) => dice.pick(&[numbers[place - 2].max(0) - 1, corner]),
-        (_, 2 | 3) | (b'Q', _) => corner,
+        (b'Q', 4 | 5) | (b'W', 5 | 6) => dice.pick(&[numbers[place - 2].max(0) - 1, corner]),
+        (_, 2 | 3) | (b'Q' | b'W', _) => corner,
         _ => dice.pick(&[-TOP_SPEED - 1, -TOP_SPEED, TOP_SPEED, TOP_SPEED + 1, far]),
     }
+}
+
+/// An ask's time as near to now as may be, or a second farther off.
+fn spoiled_asked(dice: &mut Dice, now: i64, far: i64) -> i64 {
+    let (earliest, latest) = (now - ASK_BEFORE, now + ASK_AFTER);
+    dice.pick(&[earliest - 1, earliest, latest, latest + 1, far])
+}
+
+/// A window's first or last time: too far from now, past the other one, or with it
+/// as long a window as may be, or a second longer.
+fn spoiled_end(dice: &mut Dice, now: i64, numbers: &[i64], place: usize, far: i64) -> i64 {
+    let out = spoiled_asked(dice, now, far);
+    let longest = LONGEST_WINDOW;
+    let (first, last) = (numbers[1], numbers[2]);
+    let end = match place {
+        1 => dice.pick(&[out, out, last + 1, last - longest, last - longest - 1]),
+        _ => dice.pick(&[out, out, first - 1, first + longest, first + longest + 1]),
+    };
+    // The other end may be spoiled too, and as far out as a line can say.
+    end.clamp(LEAST, GREATEST)
 }

@@ -25,19 +25,20 @@ struct Style {
     fleet: Fleet,
     held: usize,
     paces: &'static [Pace],
-    /// Each so often in a thousand lines.
+    /// Each so often in a thousand lines; windows in a thousand asks.
     asks: i64,
+    windows: i64,
     damage: i64,
     refusals: i64,
     reopen: i64,
 }
 
 #[rustfmt::skip]
-const STYLES: [Style; 14] = {
+const STYLES: [Style; 17] = {
     use Fleet::*;
     use Pace::*;
     const fn style(name: &'static str, fleet: Fleet, held: usize, paces: &'static [Pace]) -> Style {
-        Style { name, fleet, held, paces, asks: 500, damage: 10, refusals: 20, reopen: 1 }
+        Style { name, fleet, held, paces, asks: 500, windows: 300, damage: 10, refusals: 20, reopen: 1 }
     }
     [
         style("mixed", Any, 60, &[Still, Seconds, Seconds, Seconds, Minutes, Border, Jump]),
@@ -52,6 +53,9 @@ const STYLES: [Style; 14] = {
         style("limits", Limits, 12, &[Still, Still, Seconds, Border, Jump]),
         style("sparse", Corner, 5, &[Still, Still, Minutes, Border]),
         Style { asks: 250, reopen: 0, ..style("full store", Any, MOST_HELD, &[Still, Still, Still, Seconds, Seconds, Minutes, Border]) },
+        Style { windows: 1_000, ..style("windows", Any, 40, &[Still, Still, Seconds, Minutes, Border, Jump]) },
+        Style { windows: 1_000, ..style("windows, edges", Edges, 30, &[Still, Still, Minutes, Border]) },
+        Style { windows: 1_000, refusals: 300, ..style("windows, limits", Limits, 12, &[Still, Still, Seconds, Border, Jump, End]) },
         Style { damage: 500, ..style("damaged lines", Any, 30, &[Seconds, Minutes]) },
         Style { refusals: 600, reopen: 20, ..style("refusals, reopenings", Limits, 8, &[Still, Minutes, Border]) },
     ]
@@ -92,7 +96,8 @@ fn short_lists() -> Vec<List> {
         [listing, b"\n", listing, b"\n\n", unended].concat(),
         (0..=255).collect(),
     ];
-    for length in [10, 60, 61, 62, 63, 64, 4_096, 65_536, 1_000_000] {
+    let about_longest = LONGEST - 1..LONGEST + 4;
+    for length in [10, 61, 4_096, 65_536, 1_000_000].into_iter().chain(about_longest) {
         for fill in [b' ', b'0', b'Q', 0] {
             let long = vec![fill; length];
             inputs.push([listing, &long, b"\n", line].concat());
@@ -115,8 +120,9 @@ pub fn many_reports() -> Vec<u8> {
     maker.input
 }
 
-/// A file of 20,000 optimal asks of a full fleet in three phases.
-pub fn many_asks() -> Vec<u8> {
+/// A file of 20,000 optimal asks, timeslices (`Q`) or windows (`W`), of a full
+/// fleet in three phases.
+pub fn many_asks(letter: u8) -> Vec<u8> {
     let mut maker = Maker::new(1_000_002);
     maker.settle(MOST_HELD);
     for number in 0..MOST_HELD as i64 {
@@ -124,8 +130,8 @@ pub fn many_asks() -> Vec<u8> {
         maker.sight(b'U', Fleet::Any, id, 10 * number);
     }
     for _ in 0..20_000 {
-        let numbers = maker.ask_numbers();
-        maker.put_ask(LAST_METHOD, numbers);
+        let numbers = maker.ask_numbers(letter);
+        maker.put_ask(letter, LAST_METHOD, &numbers);
     }
     maker.input
 }
@@ -167,8 +173,9 @@ impl Maker {
         self.put(letter, &report_numbers(&report));
     }
 
-    fn put_ask(&mut self, method: i64, numbers: [i64; 5]) {
-        self.put(b'Q', &[&[method], &numbers[..]].concat());
+    /// An ask or a window ask, by its numbers after the method.
+    fn put_ask(&mut self, letter: u8, method: i64, numbers: &[i64]) {
+        self.put(letter, &[&[method], numbers].concat());
     }
 
     fn now(&self) -> i64 {
@@ -205,7 +212,7 @@ impl Maker {
         } else if self.dice.chance(style.refusals) {
             self.refusal(style.fleet);
         } else if self.dice.chance(style.asks) {
-            self.ask();
+            self.ask(style);
         } else {
             self.change(style);
         }
@@ -262,8 +269,9 @@ impl Maker {
         report.map_or(1, |report| report.id)
     }
 
-    fn ask(&mut self) {
-        let numbers = self.ask_numbers();
+    fn ask(&mut self, style: &Style) {
+        let letter = if self.dice.chance(style.windows) { b'W' } else { b'Q' };
+        let numbers = self.ask_numbers(letter);
         let any = match self.dice.range(0, 2) {
             0 => 0..=LAST_METHOD,
             _ => {
@@ -271,23 +279,23 @@ impl Maker {
                 method..=method
             }
         };
-        any.for_each(|method| self.put_ask(method, numbers));
+        any.for_each(|method| self.put_ask(letter, method, &numbers));
     }
 
-    fn ask_numbers(&mut self) -> [i64; 5] {
+    fn ask_numbers(&mut self, letter: u8) -> Vec<i64> {
         let ledger = self.mirror.ledger();
-        ask(&mut self.dice, ledger.now(), |dice| any_held(ledger, dice))
+        ask(&mut self.dice, ledger.now(), letter, |dice| any_held(ledger, dice))
     }
 
     /// The letter and numbers of a call in range.
     fn any_call(&mut self, fleet: Fleet) -> (u8, Vec<i64>) {
-        let letter = self.dice.pick(b"OCDAAUUQQ");
+        let letter = self.dice.pick(b"OCDAAUUQQWW");
         let t = self.later(&[Pace::Still, Pace::Seconds]);
         let numbers = match letter {
             b'O' | b'C' => vec![t],
             b'D' => vec![self.held_id(), t],
-            b'Q' => {
-                let numbers = self.ask_numbers();
+            b'Q' | b'W' => {
+                let numbers = self.ask_numbers(letter);
                 [&[self.dice.range(0, LAST_METHOD)], &numbers[..]].concat()
             }
             _ => {
@@ -325,7 +333,7 @@ impl Maker {
         let byte = dice.range(0, 255) as u8;
         match dice.range(0, 15) {
             0 => line[0] = byte,
-            1 => line[0] = dice.pick(b"ocadquBR?0 "),
+            1 => line[0] = dice.pick(b"ocadquwBR?0 "),
             2 => line[place] = byte,
             3 => line.truncate(place),
             4 => line.insert(place, dice.pick(b" 0-")),
@@ -357,7 +365,7 @@ impl Maker {
     /// The full store and the one float too many.
     fn fill_up(&mut self) {
         self.settle(MOST_HELD - 1);
-        for _ in 0..3 {
+        for _ in 0..4 {
             self.settle(MOST_HELD);
             let ids: Vec<i64> = self.mirror.ledger().reports().map(|r| r.id).collect();
             let free = (1..=LAST_ID).rfind(|id| !ids.contains(id)).unwrap_or(0);
@@ -370,7 +378,8 @@ impl Maker {
             self.put(b'A', &[free, -1, 1, 1, 0, TOP_SPEED + 1]);
             self.put(b'U', &[held, now, 1, 1, 0, 0]);
             for method in 0..=LAST_METHOD {
-                self.put_ask(method, [now, 0, 0, SEA, SEA]);
+                self.put_ask(b'Q', method, &[now, 0, 0, SEA, SEA]);
+                self.put_ask(b'W', method, &[now, now + 1, 0, 0, SEA, SEA]);
             }
             let t = self.later(&[Pace::Still, Pace::Minutes, Pace::Jump]);
             self.put(b'D', &[held, t]);

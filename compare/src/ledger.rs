@@ -8,30 +8,34 @@
 
 use crate::grid::{cell, Rectangle};
 use crate::limits::{ASK_AFTER, ASK_BEFORE, CELLS, LAST_ID, LAST_METHOD, LAST_TIME};
-use crate::limits::{MOST_HELD, PHASE, SEA, SLOTS, TOP_SPEED};
+use crate::limits::{LONGEST_WINDOW, MOST_HELD, PHASE, SEA, SLOTS, TOP_SPEED};
 use crate::methods::{bounds, Choice, Row, Wrong};
 use std::collections::BTreeMap;
 
-/// What a float reported: its id, the time, its position and its speed.
+pub use crate::motion::Report;
+
+/// When an ask wants floats in its rectangle: at one time, or at some moment from
+/// a first time to a last one.
 #[derive(Clone, Copy, Debug, PartialEq, Eq)]
-pub struct Report {
-    pub id: i64,
-    pub t: i64,
-    pub at: [i64; 2],
-    pub speed: [i64; 2],
+pub enum When {
+    At(i64),
+    During { first: i64, last: i64 },
 }
 
-impl Report {
-    /// The position at time s.
-    pub fn position(&self, s: i64) -> [i64; 2] {
-        [0, 1].map(|axis| self.at[axis] + self.speed[axis] * (s - self.t))
+impl When {
+    /// The first and the last time.
+    pub fn ends(self) -> [i64; 2] {
+        match self {
+            When::At(time) => [time; 2],
+            When::During { first, last } => [first, last],
+        }
     }
 }
 
 #[derive(Clone, Copy, Debug, PartialEq, Eq)]
 pub struct Ask {
     pub method: i64,
-    pub time: i64,
+    pub when: When,
     pub rectangle: Rectangle,
 }
 
@@ -232,15 +236,35 @@ impl Ledger {
         Ok(())
     }
 
+    /// One time is never before itself, so 10 is for windows alone.
+    fn check_ask(&self, ask: &Ask) -> Result<(), i64> {
+        let near = self.now - ASK_BEFORE..=self.now + ASK_AFTER;
+        let [first, last] = ask.when.ends();
+        let good = |t| near.contains(t) && (0..=LAST_TIME).contains(t);
+        check([first, last].iter().all(good), 3)?;
+        let more = i64::from(self.wrong == Some(Wrong::LongWindow));
+        let window = check((0..=LONGEST_WINDOW + more).contains(&(last - first)), 10);
+        let numbers = check(ask_in_range(ask), 4);
+        match self.wrong {
+            Some(Wrong::LateWindow) => numbers.and(window),
+            _ => window.and(numbers),
+        }
+    }
+
+    fn lists(&self, ask: &Ask, report: &Report) -> bool {
+        match ask.when {
+            When::At(time) => ask.rectangle.holds(report.position(time)),
+            When::During { .. } => report.is_in_during(&ask.rectangle, ask.when.ends(), self.wrong),
+        }
+    }
+
     fn ask(&self, ask: &Ask) -> Result<Answer, i64> {
-        let near = (self.now - ASK_BEFORE..=self.now + ASK_AFTER).contains(&ask.time);
-        check(near && (0..=LAST_TIME).contains(&ask.time), 3)?;
-        check(ask_in_range(ask), 4)?;
+        self.check_ask(ask)?;
         let mut ids = Vec::new();
         let mut seen = [[false; CELLS]; SLOTS];
         let mut useful = 0;
         for held in self.held.values() {
-            if ask.rectangle.holds(held.report.position(ask.time)) {
+            if self.lists(ask, &held.report) {
                 ids.push(held.report.id);
                 let seen = &mut seen[slot(held.phase)][held.cell];
                 useful += usize::from(!*seen);
@@ -262,7 +286,7 @@ impl Ledger {
         Choice {
             rows: &self.rows[slot(phase)],
             rectangle: ask.rectangle,
-            d: ask.time - PHASE * phase,
+            d: ask.when.ends().map(|time| time - PHASE * phase),
             wrong: self.wrong,
         }
     }

@@ -1,13 +1,14 @@
-//! The plain ledger of document 01, and the means to compare another program
-//! with it.
+//! The plain ledger of documents 01 and 02, and the means to compare another
+//! program with it.
 //!
-//! The ledger was written from that document alone. It shares no code with the
+//! The ledger was written from those documents alone. It shares no code with the
 //! index, its twin in bench/ or the buffers that boundary/ lends, not even a
 //! constant; only dice come from another crate, for the lists.
 //!
-//! - `limits`: the document's numbers.
+//! - `limits`: the documents' numbers.
 //! - `grid`: columns, cells, blocks of cells and the curve.
 //! - `methods`: speed rows and the four ways to choose cells.
+//! - `motion`: reports, positions, and moments at which a float is inside.
 //! - `ledger`: the calls and their answers.
 //! - `lines`: call lines read, call and answer lines written.
 //! - `stream`: a run of bytes in, a run of bytes out.
@@ -21,6 +22,7 @@ pub mod ledger;
 pub mod limits;
 pub mod lines;
 pub mod methods;
+pub mod motion;
 pub mod stream;
 
 /// An enum of plain cases, and `ALL`, the list of them.
@@ -37,7 +39,7 @@ macro_rules! listed {
     };
 }
 
-/// The document's listing: call lines and the answers to them.
+/// Document 01's listing: call lines and the answers to them.
 pub const LISTING: (&str, &str) = (
     "\
 O         0

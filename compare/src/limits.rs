@@ -1,6 +1,6 @@
-//! Document 01's numbers, once for the ledger and what is compared with it. The
-//! index's side has its own (bindings/rust, buffers), so that a slip on one side
-//! is not the other's too.
+//! The numbers of documents 01 and 02, once for the ledger and what is compared
+//! with it. The index's side has its own (bindings/rust, buffers), so that a slip
+//! on one side is not the other's too.
 
 /// The grid's columns, and its rows.
 pub const SIDE: usize = 32;
@@ -21,5 +21,7 @@ pub const SLOTS: usize = 3;
 /// How far before now and after now an ask's time may lie.
 pub const ASK_BEFORE: i64 = 3_600;
 pub const ASK_AFTER: i64 = 7_200;
+/// How far after its first time a window's last time may lie.
+pub const LONGEST_WINDOW: i64 = 3_600;
 /// Methods are 0 to this.
 pub const LAST_METHOD: i64 = 3;

@@ -1,14 +1,14 @@
 //! Call lines read strictly, call lines and answer lines written.
 
 use crate::grid::Rectangle;
-use crate::ledger::{Answer, Ask, Call, Report};
+use crate::ledger::{Answer, Ask, Call, Report, When};
 
 /// The columns of a number.
 pub const COLUMNS: usize = 10;
 pub const LEAST: i64 = -999_999_999;
 pub const GREATEST: i64 = 2_147_483_647;
 /// The most numbers of a call.
-const MOST: usize = 6;
+const MOST: usize = 7;
 /// The longest call line: a letter and its numbers.
 pub const LONGEST: usize = 1 + MOST * COLUMNS;
 
@@ -38,14 +38,21 @@ pub fn call(letter: u8, numbers: &[i64]) -> Option<Call> {
                 _ => Call::Report(report),
             }
         }
-        (b'Q', &[method, time, low_x, low_y, high_x, high_y]) => Call::Ask(Ask {
-            method,
-            time,
-            rectangle: Rectangle { low: [low_x, low_y], high: [high_x, high_y] },
-        }),
+        (b'Q', &[method, time, ref corners @ ..]) => ask(method, When::At(time), corners)?,
+        (b'W', &[method, first, last, ref corners @ ..]) => {
+            ask(method, When::During { first, last }, corners)?
+        }
         _ => return None,
     };
     Some(call)
+}
+
+fn ask(method: i64, when: When, corners: &[i64]) -> Option<Call> {
+    let &[low_x, low_y, high_x, high_y] = corners else {
+        return None;
+    };
+    let rectangle = Rectangle { low: [low_x, low_y], high: [high_x, high_y] };
+    Some(Call::Ask(Ask { method, when, rectangle }))
 }
 
 /// The numbers of an add or a report.
@@ -169,13 +176,16 @@ mod tests {
 
     #[test]
     fn a_written_call_line_is_read_as_that_call() {
-        for (letter, count) in [(b'O', 1), (b'C', 1), (b'D', 2), (b'A', 6), (b'U', 6), (b'Q', 6)] {
+        let counts = [(b'O', 1), (b'C', 1), (b'D', 2), (b'A', 6), (b'U', 6), (b'Q', 6), (b'W', 7)];
+        for (letter, count) in counts {
             for n in [LEAST, -1, 0, 1, 65_535, GREATEST] {
                 let mut line = Vec::new();
                 let numbers: Vec<i64> = (1..=count).map(|i| n / i).collect();
                 write_line(letter, &numbers, &mut line);
                 let read = read_call(&line[..line.len() - 1]);
                 assert!(read.is_some() && read == call(letter, &numbers));
+                let more = [&numbers[..], &[0]].concat();
+                assert!([&numbers[1..], &more].map(|other| call(letter, other)) == [None, None]);
             }
         }
     }

@@ -11,11 +11,11 @@
 //! from file to file, some of them through a pipe in small pieces too. At the
 //! first difference the line, its call and both answers are printed and the
 //! exit is 1. `--more` takes ten times the seeds. At the end it prints the
-//! times of the program and of the ledger on two long files.
+//! times of the program and of the ledger on three long files.
 //!
 //! `--mutants` needs no program: it shows that the lists tell the ledger from
-//! one with a wrong rule, for each of four wrong rules. `--write` writes the
-//! lists and the two long files into a folder, to look at or to run by hand.
+//! one with a wrong rule, for each of those in `Wrong`. `--write` writes the
+//! lists and the long files into a folder, to look at or to run by hand.
 //! `--ledger` answers call lines from standard input, as the ledger does.
 //! `--chart` prints the curve table by the quadrant rule, as the chart room
 //! wants it: 32 lines of 32 numbers in 5 columns each, row 0 first.
@@ -23,6 +23,7 @@
 use plain_ledger::generate::{lists, many_asks, many_reports, List};
 use plain_ledger::grid::curve_number;
 use plain_ledger::limits::SIDE;
+use plain_ledger::lines::{COLUMNS, LONGEST};
 use plain_ledger::methods::Wrong;
 use plain_ledger::stream::{answers, serve};
 use std::collections::BTreeMap;
@@ -37,7 +38,9 @@ use std::time::{Duration, Instant};
 const SEEDS: u64 = 7;
 const MORE_SEEDS: u64 = 70;
 /// Lengths of the pieces in which lists go through a pipe.
-const PIECES: [usize; 5] = [1, 10, 61, 62, 5_000];
+const PIECES: [usize; 5] = [1, 10, LONGEST, LONGEST + 1, 5_000];
+/// Numbers that an answer line may have: 0 accepted, 9 no call, else refused.
+const NUMBERS: usize = 11;
 
 fn main() {
     let mut more = false;
@@ -66,7 +69,8 @@ fn main() {
     run.compare_pieces();
     run.look_at_typing();
     run.compare_times("200,000 reports", &many_reports());
-    run.compare_times("20,000 optimal asks", &many_asks());
+    run.compare_times("20,000 optimal asks", &many_asks(b'Q'));
+    run.compare_times("20,000 optimal window asks", &many_asks(b'W'));
     or_fail(fs::remove_dir_all(&run.folder), "removing the lists");
 }
 
@@ -106,7 +110,17 @@ fn write_lists(folder: &str) {
         write(format!("list-{index}"), &list.input);
     }
     write("reports".into(), &many_reports());
-    write("asks".into(), &many_asks());
+    write("asks".into(), &many_asks(b'Q'));
+    write("windows".into(), &many_asks(b'W'));
+}
+
+/// Counts the answers by their number.
+fn count_numbers(answers: &[u8], counts: &mut [usize; NUMBERS]) {
+    for answer in answers.split_inclusive(|byte| *byte == b'\n') {
+        let number = std::str::from_utf8(&answer[1..1 + COLUMNS]).ok();
+        let number = number.and_then(|text| text.trim_start().parse::<usize>().ok());
+        counts[number.expect("an answer line has a number")] += 1;
+    }
 }
 
 /// The first line at which two outputs differ, counted from 0.
@@ -160,7 +174,8 @@ impl Run {
     fn compare_lists(&self, seeds: u64) {
         let start = Instant::now();
         let mut styles: BTreeMap<&str, (usize, usize)> = BTreeMap::new();
-        let mut numbers = [0; 10];
+        let mut numbers = [0; NUMBERS];
+        let mut windows = 0;
         for (index, list) in lists(seeds).enumerate() {
             let style = list.style;
             or_fail(fs::write(self.folder.join("input"), &list.input), "writing");
@@ -169,19 +184,20 @@ impl Run {
             let name = format!("list {index} ({style})");
             self.check(&name, &list.input, &list.answers, &got);
             let entry = styles.entry(style).or_default();
+            let count = |wanted| list.answers.iter().filter(|byte| **byte == wanted).count();
             entry.0 += 1;
-            for answer in list.answers.split_inclusive(|byte| *byte == b'\n') {
-                entry.1 += 1;
-                numbers[(answer[10] - b'0') as usize] += 1;
-            }
+            entry.1 += count(b'\n');
+            windows += count(b'W');
+            count_numbers(&list.answers, &mut numbers);
         }
         for (style, (lists, lines)) in &styles {
             println!("{style:>22}: {lists:>4} lists {lines:>8} lines");
         }
         let lines: usize = styles.values().map(|(_, lines)| lines).sum();
         let accepted = numbers[0];
-        let refused = &numbers[3..8];
-        println!("accepted {accepted}, refused 3 to 7 {refused:?}, no call {}", numbers[9]);
+        let (refused, bad_windows) = (&numbers[3..8], numbers[10]);
+        print!("accepted {accepted}, refused 3 to 7 {refused:?}, 10 {bad_windows}");
+        println!(", no call {}; window asks {windows}", numbers[9]);
         println!("{lines} lines the same in {:.1} s", start.elapsed().as_secs_f64());
     }
 
@@ -309,11 +325,9 @@ mod tests {
 
     #[test]
     fn the_lists_are_long_and_hold_every_answer() {
-        let mut numbers = [0; 10];
+        let mut numbers = [0; NUMBERS];
         for list in lists(SEEDS) {
-            for answer in list.answers.split_inclusive(|byte| *byte == b'\n') {
-                numbers[(answer[10] - b'0') as usize] += 1;
-            }
+            count_numbers(&list.answers, &mut numbers);
         }
         assert!(numbers.iter().sum::<usize>() >= 200_000);
         for (number, count) in numbers.into_iter().enumerate() {

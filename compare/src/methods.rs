@@ -14,6 +14,28 @@ crate::listed! {
         NarrowedDrop,
         /// An ask leaves out the oldest of three live phases.
         SkippedPhase,
+        /// A window looks at whole seconds alone.
+        WholeSeconds,
+        /// In a window each axis has a moment of its own.
+        OwnMoments,
+        /// A float that is in the rectangle for one moment of a longer window is
+        /// not listed.
+        TouchLeftOut,
+        /// A window takes the low edge for the first also where a float goes
+        /// down.
+        SameEnds,
+        /// A window expands and moves by its first time alone.
+        FirstTwice,
+        /// A window reads the naive blocks of both times and not what lies
+        /// between them.
+        UnitedBlocks,
+        /// A window's cell is read where it meets the rectangle at the first time
+        /// or at the last.
+        EitherMoved,
+        /// A window may be a second longer.
+        LongWindow,
+        /// A window's length is looked at after its other numbers.
+        LateWindow,
     }
 }
 
@@ -63,12 +85,14 @@ pub struct Chosen {
     pub rounds: usize,
 }
 
-/// One ask put to one live phase: its rows, the rectangle, and d, the asked
-/// time less the phase's reference time.
+/// One ask put to one live phase: its rows, the rectangle, and d, the first and
+/// the last asked time less the phase's reference time; a timeslice has one time
+/// for both.
+#[derive(Clone, Copy)]
 pub struct Choice<'a> {
     pub rows: &'a [Row],
     pub rectangle: Rectangle,
-    pub d: i64,
+    pub d: [i64; 2],
     pub wrong: Option<Wrong>,
 }
 
@@ -89,10 +113,19 @@ impl Choice<'_> {
         for run in block.into_iter().flat_map(Block::runs) {
             cells.extend(run);
         }
+        if self.wrong == Some(Wrong::UnitedBlocks) {
+            let runs = self.d.map(|d| self.at(d).expand(all).runs().collect::<Vec<_>>()).concat();
+            cells.retain(|cell| runs.iter().any(|run| run.contains(cell)));
+        }
         if method == 3 {
-            cells.retain(|cell| self.meets(*cell));
+            cells.retain(|cell| self.reads(*cell));
         }
         Chosen { cells, rounds }
+    }
+
+    /// The same ask at one of its times, by the right rules.
+    fn at(&self, d: i64) -> Choice<'_> {
+        Choice { d: [d; 2], wrong: None, ..*self }
     }
 
     fn block_bounds(&self, block: Block) -> Row {
@@ -125,32 +158,56 @@ impl Choice<'_> {
     }
 
     /// The size of d, for the formulas with d below 0.
-    fn size(&self) -> i64 {
+    fn size(&self, d: i64) -> i64 {
         match self.wrong {
-            Some(Wrong::SignedBack) => self.d,
-            _ => self.d.abs(),
+            Some(Wrong::SignedBack) => d,
+            _ => d.abs(),
         }
     }
 
-    /// The block of the rectangle expanded by bounds.
+    /// The smallest span from low to high that holds the one found for the first
+    /// time and the one for the last.
+    fn around(&self, of: impl Fn(i64) -> (i64, i64)) -> (i64, i64) {
+        let [first, last] = match self.wrong {
+            Some(Wrong::FirstTwice) => [self.d[0]; 2],
+            _ => self.d,
+        };
+        let (first, last) = (of(first), of(last));
+        (first.0.min(last.0), first.1.max(last.1))
+    }
+
+    /// The block of the rectangle expanded by bounds, for both times.
     fn expand(&self, by: Row) -> Block {
         let mut block = Block { low: [0; 2], high: [0; 2] };
         for axis in 0..2 {
-            let (least, greatest) = by.span(axis);
-            let (low, high) = (self.rectangle.low[axis], self.rectangle.high[axis]);
-            let (low, high) = if self.d >= 0 {
-                (low - greatest * self.d, high - least * self.d)
-            } else {
-                (low + least * self.size(), high + greatest * self.size())
-            };
+            let (low, high) = self.around(|d| self.expanded(axis, &by, d));
             block.low[axis] = column(low);
             block.high[axis] = column(high);
         }
         block
     }
 
-    /// Whether the cell's row is nonempty and the cell, moved by its row's
-    /// speeds over d, meets the rectangle.
+    /// The rectangle expanded by bounds over d, on one axis.
+    fn expanded(&self, axis: usize, by: &Row, d: i64) -> (i64, i64) {
+        let (least, greatest) = by.span(axis);
+        let (low, high) = (self.rectangle.low[axis], self.rectangle.high[axis]);
+        if d >= 0 {
+            (low - greatest * d, high - least * d)
+        } else {
+            (low + least * self.size(d), high + greatest * self.size(d))
+        }
+    }
+
+    /// Whether the optimal method reads a cell of the naive block.
+    fn reads(&self, cell: usize) -> bool {
+        match self.wrong {
+            Some(Wrong::EitherMoved) => self.d.iter().any(|d| self.at(*d).meets(cell)),
+            _ => self.meets(cell),
+        }
+    }
+
+    /// Whether the cell's row is nonempty and the smallest rectangle around the
+    /// cell, moved by its row's speeds over either d, meets the rectangle.
     fn meets(&self, cell: usize) -> bool {
         let row = &self.rows[cell];
         let places = places(cell);
@@ -158,18 +215,23 @@ impl Choice<'_> {
     }
 
     fn meets_on(&self, axis: usize, place: usize, row: &Row) -> bool {
-        let (least, greatest) = row.span(axis);
-        let low = WIDTH * place as i64;
-        let high = low + WIDTH - 1;
-        let (low, high) = if self.d >= 0 {
-            (low + least * self.d, high + greatest * self.d)
-        } else {
-            (low - greatest * self.size(), high - least * self.size())
-        };
+        let (low, high) = self.around(|d| self.moved(axis, place, row, d));
         let ended = self.wrong == Some(Wrong::EndedEdges);
         let endless_low = place == 0 && !ended;
         let endless_high = place == SIDE - 1 && !ended;
         (endless_low || low <= self.rectangle.high[axis])
             && (endless_high || self.rectangle.low[axis] <= high)
+    }
+
+    /// A cell's column, or row, moved by its row's speeds over d.
+    fn moved(&self, axis: usize, place: usize, row: &Row, d: i64) -> (i64, i64) {
+        let (least, greatest) = row.span(axis);
+        let low = WIDTH * place as i64;
+        let high = low + WIDTH - 1;
+        if d >= 0 {
+            (low + least * d, high + greatest * d)
+        } else {
+            (low - greatest * self.size(d), high - least * self.size(d))
+        }
     }
 }

@@ -49,6 +49,11 @@ impl Range {
     fn holds(&self, x: i64) -> bool {
         self.low <= x && x <= self.high
     }
+
+    /// The smallest range around both.
+    pub fn around(&self, other: &Range) -> Range {
+        Range { low: self.low.min(other.low), high: self.high.max(other.high) }
+    }
 }
 
 /// A rectangle by its axes.

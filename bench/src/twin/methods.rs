@@ -26,15 +26,17 @@ impl Block {
 }
 
 /// One ask put to one live phase: the rows of its slot by curve number, the
-/// rectangle, and the asked time less the reference time.
+/// rectangle, and the first and last asked time less the reference time.
 pub struct Choice<'a> {
     pub rows: &'a [Row],
     pub q: &'a Rect,
-    pub d: i64,
+    pub d: [i64; 2],
 }
 
 impl Choice<'_> {
     /// Marks the chosen cells, and gives the rounds.
+    // Part of each kind of ask's own code, as it is where there is one kind.
+    #[inline(always)]
     pub fn choose(&self, method: i32, marks: &mut [bool; CELLS]) -> usize {
         let all = self.rows.iter().fold(EMPTY, |all, row| join(all, *row));
         if all == EMPTY {
@@ -77,11 +79,21 @@ impl Choice<'_> {
         unreachable!("bounds come to repeat themselves")
     }
 
-    /// What reaches the rectangle's span of an axis at speeds of a row.
+    /// What reaches the rectangle's span of an axis at speeds of a row, for both
+    /// times. Where they are one, so is what reaches it.
     fn reach(&self, axis: usize, row: &Row) -> Range {
+        let [first, last] = self.d;
+        let at_first = self.reach_over(first, axis, row);
+        if first == last {
+            return at_first;
+        }
+        at_first.around(&self.reach_over(last, axis, row))
+    }
+
+    fn reach_over(&self, d: i64, axis: usize, row: &Row) -> Range {
         let [least, greatest] = row[axis].map(i64::from);
-        let (fast, slow) = if self.d >= 0 { (greatest, least) } else { (least, greatest) };
-        Range { low: self.q.0[axis].low - fast * self.d, high: self.q.0[axis].high - slow * self.d }
+        let (fast, slow) = if d >= 0 { (greatest, least) } else { (least, greatest) };
+        Range { low: self.q.0[axis].low - fast * d, high: self.q.0[axis].high - slow * d }
     }
 
     fn expand(&self, bounds: &Row) -> Block {

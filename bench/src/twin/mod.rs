@@ -3,16 +3,19 @@
 
 mod grid;
 mod methods;
+mod motion;
 mod rows;
 mod store;
 
 use buffers::{record, Words, CELLS, EMPTY, HELD, NOW};
 use float_index::{method, refusal, Rectangle, Reply, Report};
-use float_index::{ASK_AFTER, ASK_BEFORE, LAST_POSITION, LAST_TIME, MOST_HELD};
+use float_index::{ASK_AFTER, ASK_BEFORE, LAST_POSITION, LAST_TIME, LONGEST_WINDOW, MOST_HELD};
 use grid::Rect;
 use methods::Choice;
+use motion::Query;
 use rows::{first_live, phase_of, reference_time, slot_of};
 
+pub use motion::{At, During, When};
 pub use store::is_sound;
 
 type Checked = Result<(), usize>;
@@ -140,10 +143,18 @@ pub fn drop(words: &mut Words, id: i32, t: i32) -> Reply {
     reply(checked, words)
 }
 
-fn check_ask(words: &Words, method: i32, asked: i32, q: &Rectangle) -> Checked {
+/// Whether an ask's time lies near enough to that of the store.
+fn is_near(words: &Words, asked: i64) -> bool {
+    let now = words.store[NOW];
+    let near = i64::from(now - ASK_BEFORE)..=i64::from(now + ASK_AFTER);
+    near.contains(&asked) && (0..=LAST_TIME.into()).contains(&asked)
+}
+
+fn check_ask(words: &Words, method: i32, when: impl When, q: &Rectangle) -> Checked {
     check_buffers(words)?;
-    let near = (words.store[NOW] - ASK_BEFORE..=words.store[NOW] + ASK_AFTER).contains(&asked);
-    check(near && (0..=LAST_TIME).contains(&asked), refusal::BAD_TIME)?;
+    let [first, last] = when.ends();
+    check(is_near(words, first) && is_near(words, last), refusal::BAD_TIME)?;
+    check((0..=LONGEST_WINDOW.into()).contains(&(last - first)), refusal::BAD_WINDOW)?;
     let corners = [q.low_x, q.low_y, q.high_x, q.high_y];
     let in_sea = corners.iter().all(|x| (0..=LAST_POSITION).contains(x));
     let in_order = q.low_x <= q.high_x && q.low_y <= q.high_y;
@@ -151,25 +162,27 @@ fn check_ask(words: &Words, method: i32, asked: i32, q: &Rectangle) -> Checked {
     check(is_method && in_sea && in_order, refusal::BAD_NUMBER)
 }
 
+/// An ask at a time, or a window ask.
 #[inline(never)]
-pub fn ask(words: &Words, list: &mut [u16], method: i32, asked: i32, q: Rectangle) -> Reply {
-    match check_ask(words, method, asked, &q) {
-        Ok(()) => ask_sound(words, list, method, asked.into(), &Rect::new(q)),
+pub fn ask(words: &Words, list: &mut [u16], method: i32, when: impl When, q: Rectangle) -> Reply {
+    match check_ask(words, method, when, &q) {
+        Ok(()) => ask_sound(words, list, method, &Query { rect: Rect::new(q), when }),
         Err(number) => plain(number, 0),
     }
 }
 
-fn ask_sound(words: &Words, list: &mut [u16], method: i32, asked: i64, q: &Rect) -> Reply {
+fn ask_sound<W: When>(words: &Words, list: &mut [u16], method: i32, query: &Query<W>) -> Reply {
     let mut found = [0; store::IDS];
     let mut sum = Reply::default();
     let c = phase_of(words.store[NOW]);
     for phase in first_live(c).max(0)..=c {
         let slot = slot_of(phase);
         let rows = &buffers::rows(&words.table)[CELLS * slot..CELLS * (slot + 1)];
-        let choice = Choice { rows, q, d: asked - reference_time(phase) };
+        let d = query.when.ends().map(|time| time - reference_time(phase));
+        let choice = Choice { rows, q: &query.rect, d };
         let mut marks = [false; CELLS];
         sum.rounds += choice.choose(method, &mut marks);
-        let reading = store::read_cells(words, slot, &marks, q, asked, &mut found);
+        let reading = store::read_cells(words, slot, &marks, query, &mut found);
         sum.value += reading.listed;
         sum.cells += reading.cells;
         sum.useful += reading.useful;
@@ -183,6 +196,6 @@ fn ask_sound(words: &Words, list: &mut [u16], method: i32, asked: i64, q: &Rect)
 
 /// A linear scan without checks.
 #[inline(never)]
-pub fn scan(words: &Words, list: &mut [u16], asked: i32, q: Rectangle) -> usize {
-    store::scan(words, &Rect::new(q), asked.into(), list)
+pub fn scan(words: &Words, list: &mut [u16], when: impl When, q: Rectangle) -> usize {
+    store::scan(words, &Query { rect: Rect::new(q), when }, list)
 }

@@ -1,6 +1,7 @@
 //! The records: soundness, changes, the phase change, reading.
 
-use super::grid::{column, curve_number, Rect};
+use super::grid::{column, curve_number};
+use super::motion::{position, Query, When};
 use super::rows::{first_live, holds, is_valid, join, phase_of, reference_time, row_of, slot_of};
 use buffers::{key, order, records, records_mut, report, rows, rows_mut};
 use buffers::{Record, Words, CELLS, HELD, ID, KEY, KEYS, NOW, RECORD_WORDS, SLOTS};
@@ -8,12 +9,6 @@ use float_index::{Report, LAST_ID, LAST_POSITION, LAST_TIME, MOST_HELD, TOP_SPEE
 
 /// Ids are below this.
 pub const IDS: usize = LAST_ID as usize + 1;
-
-/// Where a float is at time s.
-fn position(r: &Report, s: i64) -> [i64; 2] {
-    let past = s - i64::from(r.t);
-    [(r.x, r.vx), (r.y, r.vy)].map(|(x, v)| i64::from(x) + i64::from(v) * past)
-}
 
 /// The key of a report in a phase.
 pub fn key_in(phase: i64, r: &Report) -> i32 {
@@ -147,12 +142,11 @@ pub struct Reading {
 
 /// Reads the marked cells of a slot, each run of marked numbers as one run of
 /// records, and marks the ids listed.
-pub fn read_cells(
+pub fn read_cells<W: When>(
     words: &Words,
     slot: usize,
     marks: &[bool; CELLS],
-    q: &Rect,
-    asked: i64,
+    query: &Query<W>,
     found: &mut [u8; IDS],
 ) -> Reading {
     let records = words.held();
@@ -169,7 +163,7 @@ pub fn read_cells(
         let start = records.partition_point(|r| r[KEY] < low);
         let stop = low + run as i32;
         for r in records[start..].iter().take_while(|r| r[KEY] < stop) {
-            if q.holds(position(&report(r), asked)) {
+            if query.lists(&report(r)) {
                 found[r[ID] as usize] = 1;
                 reading.listed += 1;
                 reading.useful += usize::from(r[KEY] != last);
@@ -200,12 +194,12 @@ pub fn write_rising(found: &[u8; IDS], list: &mut [u16]) {
     }
 }
 
-/// The ids of the floats in the rectangle, in order, with no test of anything
+/// The ids of the floats that a query lists, in order, with no test of anything
 /// and every record read.
-pub fn scan(words: &Words, q: &Rect, asked: i64, list: &mut [u16]) -> usize {
+pub fn scan<W: When>(words: &Words, query: &Query<W>, list: &mut [u16]) -> usize {
     let mut n = 0;
     for r in words.held() {
-        if q.holds(position(&report(r), asked)) {
+        if query.lists(&report(r)) {
             list[n] = r[ID] as u16;
             n += 1;
         }

@@ -1,5 +1,6 @@
 //! Opens the index, adds two floats, asks where they are an hour later by each
-//! method, and shows two refusals. It prints what examples/open_add_ask.c does.
+//! method and who comes by in a window, and shows two refusals. It prints what
+//! examples/open_add_ask.c does.
 
 use float_index::{method, Rectangle, Reply, Report, MOST_HELD, STORE_WORDS, TABLE_NUMBERS};
 
@@ -40,11 +41,14 @@ fn main() {
         let reply = float_index::ask(&store, &table, &mut list, method, 3_600, RECTANGLE);
         print_ask(name, reply, &list);
     }
+    let optimal = method::OPTIMAL;
+    let reply = float_index::ask_window(&store, &table, &mut list, optimal, 0, 2_000, RECTANGLE);
+    print_ask("window", reply, &list);
     let one = &mut list[..1];
-    let reply = float_index::ask(&store, &table, one, method::OPTIMAL, 3_600, RECTANGLE);
+    let reply = float_index::ask(&store, &table, one, optimal, 3_600, RECTANGLE);
     print_ask("list of one id", reply, one);
     print_change("drop 7", float_index::drop(&mut store, &mut table, 7, 10));
     print_change("drop 7", float_index::drop(&mut store, &mut table, 7, 20));
-    let reply = float_index::ask(&store, &table, &mut list, method::OPTIMAL, 3_600, RECTANGLE);
+    let reply = float_index::ask(&store, &table, &mut list, optimal, 3_600, RECTANGLE);
     print_ask("optimal", reply, &list);
 }

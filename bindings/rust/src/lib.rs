@@ -1,7 +1,8 @@
 //! The float index for Rust programs: safe functions over the proved library.
 //!
 //! Floats drift in the sea and send in a position and a drift. An ask names a
-//! rectangle and a time and gets the floats predicted inside.
+//! rectangle and a time, or a window of time, and gets the floats predicted
+//! inside.
 //!
 //! Positions are centimetres, speeds centimetres per second, times seconds, all
 //! whole numbers. The index lives in two buffers that the caller lends: a store
@@ -9,9 +10,10 @@
 //!
 //! Every call takes any numbers, and buffers of any length with any content. It
 //! either does its whole work, or gives the number of a refusal and leaves
-//! store, table and list as they were. Checks run in the order of the numbers in
-//! [`refusal`], and the first to fail is given. Nothing is allocated, and
-//! nothing is kept between calls. A call may need [`STACK_BYTES`] of stack.
+//! store, table and list as they were. Checks run in the order in which the
+//! numbers stand in [`refusal`], and the first to fail is given. Nothing is
+//! allocated, and nothing is kept between calls. A call may need
+//! [`STACK_BYTES`] of stack.
 
 /// The words of a store; with any other length calls are refused with 1.
 pub const STORE_WORDS: usize = 7_175;
@@ -31,6 +33,8 @@ pub const TOP_SPEED: i32 = 500;
 pub const ASK_BEFORE: i32 = 3_600;
 /// How far after now an ask's time may lie, in seconds.
 pub const ASK_AFTER: i32 = 7_200;
+/// How far after its first time a window's last time may lie, in seconds.
+pub const LONGEST_WINDOW: i32 = 3_600;
 /// Stack that a call may need.
 pub const STACK_BYTES: usize = 262_144;
 
@@ -42,7 +46,8 @@ pub mod method {
     pub const OPTIMAL: i32 = 3;
 }
 
-/// The numbers that a call gives back.
+/// The numbers that a call gives back, in the order of the checks. A window ask is
+/// an ask.
 pub mod refusal {
     /// No refusal.
     pub const ACCEPTED: usize = 0;
@@ -52,6 +57,9 @@ pub mod refusal {
     pub const UNSOUND: usize = 2;
     /// Time out of its range, below now, or, for an ask, too far from now.
     pub const BAD_TIME: usize = 3;
+    /// Window ask: the last time is before the first, or more than
+    /// [`crate::LONGEST_WINDOW`] after it.
+    pub const BAD_WINDOW: usize = 10;
     /// Id, position, speed, method or corner out of its range; low above high.
     pub const BAD_NUMBER: usize = 4;
     /// Add: the id is held.
@@ -127,6 +135,9 @@ mod exported {
         pub fn float_index_ask(s: *const i32, sn: usize, t: *const i16, tn: usize,
             list: *mut u16, ids: usize, method: i32, asked: i32,
             low_x: i32, low_y: i32, high_x: i32, high_y: i32) -> Reply;
+        pub fn float_index_ask_window(s: *const i32, sn: usize, t: *const i16, tn: usize,
+            list: *mut u16, ids: usize, method: i32, first: i32, last: i32,
+            low_x: i32, low_y: i32, high_x: i32, high_y: i32) -> Reply;
         pub fn float_index_is_sound(s: *const i32, sn: usize, t: *const i16, tn: usize) -> bool;
     }
 }
@@ -134,6 +145,11 @@ mod exported {
 /// Both buffers as the exported functions take them.
 fn lent(store: &mut [i32], table: &mut [i16]) -> (*mut i32, usize, *mut i16, usize) {
     (store.as_mut_ptr(), store.len(), table.as_mut_ptr(), table.len())
+}
+
+/// The same where they are only read.
+fn read(store: &[i32], table: &[i16]) -> (*const i32, usize, *const i16, usize) {
+    (store.as_ptr(), store.len(), table.as_ptr(), table.len())
 }
 
 // SAFETY, for each function below: the exported function is proved for slices
@@ -190,7 +206,7 @@ pub fn ask(
     asked: i32,
     rectangle: Rectangle,
 ) -> Reply {
-    let (s, sn, w, wn) = (store.as_ptr(), store.len(), table.as_ptr(), table.len());
+    let (s, sn, w, wn) = read(store, table);
     let (l, ln) = (list.as_mut_ptr(), list.len());
     let Rectangle { low_x, low_y, high_x, high_y } = rectangle;
     unsafe {
@@ -198,9 +214,30 @@ pub fn ask(
     }
 }
 
+/// The held floats predicted inside the rectangle at some moment from the first
+/// time to the last, on both axes at that same moment, edges and fractions of a
+/// second included. With `first` equal to `last` it is [`ask`] at that time. List
+/// and value are as there. Refused with 1, 2, 3, 10, 4 and 8, in this order.
+pub fn ask_window(
+    store: &[i32],
+    table: &[i16],
+    list: &mut [u16],
+    method: i32,
+    first: i32,
+    last: i32,
+    rectangle: Rectangle,
+) -> Reply {
+    let (s, sn, w, wn) = read(store, table);
+    let (l, ln) = (list.as_mut_ptr(), list.len());
+    let Rectangle { low_x: x0, low_y: y0, high_x: x1, high_y: y1 } = rectangle;
+    unsafe {
+        exported::float_index_ask_window(s, sn, w, wn, l, ln, method, first, last, x0, y0, x1, y1)
+    }
+}
+
 /// Whether store and table have their lengths and are sound, so that no call
 /// refuses them with 1 or 2.
 pub fn is_sound(store: &[i32], table: &[i16]) -> bool {
-    let (s, sn, w, wn) = (store.as_ptr(), store.len(), table.as_ptr(), table.len());
+    let (s, sn, w, wn) = read(store, table);
     unsafe { exported::float_index_is_sound(s, sn, w, wn) }
 }

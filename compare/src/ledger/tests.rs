@@ -1,5 +1,6 @@
-//! The ledger against document 01's listing, P cases and table of refusals, and
-//! against its own definitions on generated lists.
+//! The ledger against document 01's listing, P cases and table of refusals,
+//! against worked window asks, and against its own definitions on generated
+//! lists.
 
 use super::*;
 use crate::generate::lists;
@@ -18,8 +19,11 @@ fn report(id: i64, t: i64, at: [i64; 2], speed: [i64; 2]) -> Report {
 }
 
 fn ask(method: i64, time: i64, low: [i64; 2], high: [i64; 2]) -> Ask {
-    let rectangle = Rectangle { low, high };
-    Ask { method, time, rectangle }
+    Ask { method, when: When::At(time), rectangle: Rectangle { low, high } }
+}
+
+fn window(method: i64, [first, last]: [i64; 2], low: [i64; 2], high: [i64; 2]) -> Ask {
+    Ask { when: When::During { first, last }, ..ask(method, first, low, high) }
 }
 
 /// Ids, cells, useful, rounds.
@@ -102,6 +106,79 @@ fn missing_bounds() {
     }
 }
 
+/// A ledger opened at 0 with these floats added then, ids from 1 on.
+fn holding(floats: &[([i64; 2], [i64; 2])]) -> Ledger {
+    let mut ledger = open(0);
+    for (id, (at, speed)) in (1..).zip(floats) {
+        let call = Call::Add(report(id, 0, *at, *speed));
+        assert_eq!(ledger.call(&call, 0), Answer::Accepted(id));
+    }
+    ledger
+}
+
+#[test]
+fn a_window_touched_at_a_corner() {
+    let mut ledger = holding(&[([1_000_000; 2], [100, -100])]);
+    for (method, cells, rounds) in [(0, 6, 0), (1, 6, 0), (2, 6, 1), (3, 1, 0)] {
+        for (high_y, ids) in [(850_000, vec![1]), (849_999, vec![])] {
+            let ask = window(method, [0, 3_600], [1_100_000, 800_000], [1_150_000, high_y]);
+            let useful = ids.len();
+            assert_eq!(listed(&mut ledger, ask), (ids, cells, useful, rounds));
+        }
+    }
+}
+
+#[test]
+fn a_window_crossed_between_two_seconds() {
+    let mut ledger = holding(&[([100; 2], [500; 2])]);
+    let ids = |ledger: &mut Ledger, ask| listed(ledger, ask).0;
+    for time in [0, 1] {
+        assert_eq!(ids(&mut ledger, ask(3, time, [350; 2], [360; 2])), []);
+    }
+    for (low_y, high_y, wanted) in [(350, 360, &[1][..]), (361, 371, &[]), (360, 371, &[1])] {
+        let ask = window(3, [0, 1], [350, low_y], [360, high_y]);
+        assert_eq!(ids(&mut ledger, ask), wanted);
+    }
+}
+
+#[test]
+fn a_window_of_one_time_and_one_of_an_hour() {
+    let floats = [(1_000_000, 300), (3_000_000, -500), (1_500_000, 0)];
+    let mut ledger = holding(&floats.map(|(x, vx)| ([x, 500], [vx, 0])));
+    for (method, one, hour) in [(0, 7, 12), (1, 4, 12), (2, 4, 12), (3, 2, 3)] {
+        for (times, ids, cells) in
+            [([1_800; 2], vec![1, 3], one), ([0, 3_600], vec![1, 2, 3], hour)]
+        {
+            let ask = window(method, times, [1_400_000, 0], [1_600_000, 1_000]);
+            let got = listed(&mut ledger, ask);
+            assert_eq!((got.0, got.1), (ids, cells));
+        }
+    }
+}
+
+#[test]
+fn refusals_of_windows() {
+    let mut ledger = open(3_600);
+    let all = |method, times| Call::Ask(window(method, times, [0; 2], [SEA; 2]));
+    let mut given = |call, number| refused(&mut ledger, call, 0, number, 0);
+    for times in [[3_600, 3_599], [0, 3_601], [10_800, 7_199]] {
+        given(all(0, times), 10);
+        given(all(4, times), 10);
+    }
+    for times in [[0, 10_801], [-1, 0], [-1, 10_801], [10_801, 10_801], [10_801, 3_600]] {
+        given(all(4, times), 3);
+    }
+    given(all(4, [0, 3_600]), 4);
+    given(Call::Ask(window(0, [0, 3_600], [1, 0], [0; 2])), 4);
+    for times in [[0, 3_600], [7_200, 10_800], [10_800, 10_800]] {
+        let nothing = Answer::Listed { ids: vec![], cells: 0, useful: 0, rounds: 0 };
+        assert_eq!(ledger.call(&all(0, times), 0), nothing);
+    }
+    ledger.call(&Call::Add(report(1, 3_600, [0; 2], [0; 2])), 0);
+    refused(&mut ledger, all(3, [0, 3_600]), 0, 8, 1);
+    refused(&mut ledger, all(3, [0, 3_601]), 0, 10, 0);
+}
+
 const GOOD: Report = Report { id: 7, t: 100, at: [0, SEA], speed: [-TOP_SPEED, TOP_SPEED] };
 
 /// Makes the call, which is refused with this number and value and changes
@@ -167,8 +244,9 @@ fn refusals_by_what_is_held() {
     assert!(matches!(listed, Answer::Listed { ids, .. } if ids == Vec::from_iter(1..=most)));
 }
 
-/// The rows are the bounds of the listed placements, and whatever the method,
-/// the chosen cells hold every listed float of their phase.
+/// The rows are the bounds of the listed placements; whatever the method, the
+/// chosen cells hold every listed float of their phase; and a window of one time
+/// gives what that time gives.
 #[test]
 fn rows_and_choices_in_generated_lists() {
     let mut most_rounds = 0;
@@ -182,7 +260,11 @@ fn rows_and_choices_in_generated_lists() {
             if number % 16 == 0 {
                 check_rows(&ledger);
             }
-            if let (Call::Ask(ask), Answer::Listed { ids, .. }) = (call, answer) {
+            let Call::Ask(ask) = call else {
+                continue;
+            };
+            check_one_time(&mut ledger, ask, &answer);
+            if let Answer::Listed { ids, .. } = answer {
                 most_rounds = most_rounds.max(check_choices(&ledger, &ask, &ids));
             }
         }
@@ -203,11 +285,24 @@ fn check_rows(ledger: &Ledger) {
     }
 }
 
+/// The same ask of one time, in the other of its two forms.
+fn check_one_time(ledger: &mut Ledger, ask: Ask, answer: &Answer) {
+    let other = match ask.when {
+        When::At(time) => When::During { first: time, last: time },
+        When::During { first, last } if first == last => When::At(first),
+        When::During { .. } => return,
+    };
+    let other = Call::Ask(Ask { when: other, ..ask });
+    assert_eq!(&ledger.call(&other, MOST_HELD), answer, "{ask:?}");
+}
+
 fn check_choices(ledger: &Ledger, ask: &Ask, ids: &[i64]) -> usize {
     let mut most_rounds = 0;
     for phase in live(ledger.now / PHASE) {
         let choice = ledger.choice(ask, phase);
-        assert!((-ASK_BEFORE..PHASE * SLOTS as i64 + ASK_AFTER).contains(&choice.d));
+        for d in choice.d {
+            assert!((-ASK_BEFORE..PHASE * SLOTS as i64 + ASK_AFTER).contains(&d));
+        }
         let chosen = [0, 1, 2, 3].map(|method| choice.choose(method));
         let mut inside = vec![0; CELLS];
         for (method, chosen) in chosen.iter().enumerate() {

@@ -17,7 +17,7 @@ use Rattle.records.specs.declared.Record.{Record}
 use Rattle.words.specs.Words.{opened}
 use Rattle.words.proofs.WordsPlacedLaws.{opened-records}
 use Rattle.ledger.specs.Answers.{refusalNumber, refusalValue, isAccepted}
-use Rattle.ledger.specs.Refusals.{check, firstToFail, badAskTime, badAsk}
+use Rattle.ledger.specs.Refusals.{check, firstToFail, askNumberChecks, askChecks}
 use Rattle.ledger.specs.Machine as Ledger
 use Rattle.ledger.specs.Machine.{Ledger}
 use Rattle.ledger.specs.Calls as L
@@ -28,10 +28,10 @@ use Rattle.ledger.specs.declared.Ask.{Ask}
 use Rattle.ledger.specs.declared.Call.{Call}
 use Rattle.ledger.specs.declared.Call.the-variants as Call
 use Rattle.ledger.specs.declared.Refusal.{Refusal}
-use Rattle.ledger.specs.declared.Refusal.the-variants.{WrongLength, Unsound, BadTime, BadNumber, AlreadyHeld, NotHeld, Full, ListTooShort}
+use Rattle.ledger.specs.declared.Refusal.the-variants.{WrongLength, Unsound, BadTime, BadWindow, BadNumber, AlreadyHeld, NotHeld, Full, ListTooShort}
 use Rattle.ledger.specs.declared.Verdict.{Verdict}
 use Rattle.ledger.specs.declared.Verdict.the-variants.{Passed, Failed}
-use Rattle.ledger.proofs.RefusalsLaws.{passes, first-passed, others-passed}
+use Rattle.ledger.proofs.RefusalsLaws.{passes, first-passed, others-passed, passed-before, before-passed}
 use Rattle.asking.specs.Asking.{idsNeeded, askSettled}
 use Rattle.engine.specs.Index.{settled, openOut, clockOut, changeOut, askOut, callOut}
 use Rattle.engine.specs.Checks.{wrongLength, unsound, openChecks, checksOf}
@@ -54,10 +54,11 @@ use Rattle.answering.specs.Answering.{longestAnswer, AtPoint, idsTold, A
 
 -- ---- room for an answer
 
-refusal-small : (r : Refusal) → refusalNumber r ≤ 8
+refusal-small : (r : Refusal) → refusalNumber r ≤ 10
 refusal-small WrongLength = omega arith
 refusal-small Unsound = omega arith
 refusal-small BadTime = omega arith
+refusal-small BadWindow = omega arith
 refusal-small BadNumber = omega arith
 refusal-small AlreadyHeld = omega arith
 refusal-small NotHeld = omega arith
@@ -114,15 +115,13 @@ few-told w (Call.Ask ask) list =
     (λ p.
     let needed = idsNeeded w ask in
     let short = ltb (length list) needed in
-    let late = badAskTime (timeIn w) (ask .query) in
-    let bad = badAsk ask in
+    let numbers = askNumberChecks (timeIn w) ask in
     let room = check short (ListTooShort needed) ∷ [] in
-    let numbers = check bad BadNumber ∷ room in
-    let asked = check late BadTime ∷ numbers in
+    let asked = askChecks (timeIn w) ask (length list) needed in
     let odd = check (unsound w) Unsound ∷ asked in
-    let p₁ = others-passed (unsound w) Unsound asked (others-passed (wrongLength w) WrongLength odd p) in
-    let p₂ = others-passed bad BadNumber room (others-passed late BadTime numbers p₁) in
-    ltb-false (length list) needed (first-passed short (ListTooShort needed) [] p₂))
+    let after-lent = others-passed (unsound w) Unsound asked (others-passed (wrongLength w) WrongLength odd p) in
+    let after-numbers = passed-before numbers room (before-passed numbers room after-lent) ∙ after-lent in
+    ltb-false (length list) needed (first-passed short (ListTooShort needed) [] after-numbers))
 
 module _ (call : Call) (w : Words) (list : List ℕ) (w′ : Words) (list′ : List ℕ) (a : Answer) (g : GivesCall (callOut w call list) a w′ list′) (e : length list ≡ listLength) where
   pub told-fits : AtPoint (w .store) (w .table) → (out : List ℕ) → longestAnswer ≤ length out → AnswerRoom a (take (idsTold a) list′) out

@@ -1,5 +1,5 @@
--- The listing of document 01 as the program's input and output, and an input whose lines are damaged, one of them too long, and whose last line
--- lacks its newline.
+-- The listing of document 01 as the program's input and output, window asks, and an input whose lines are damaged, one of them too long, and whose
+-- last line lacks its newline.
 -- Assumes nothing.
 use mathlib.Core.List.{List, [], _∷_, _++_}
 use Prim.Native.Nat.{ℕ}
@@ -34,6 +34,23 @@ listingSays =
     ∷ "D         0         1"
     ∷ "Q         0         1         3         1         0         9"
     ∷ "D         6         0"
+    ∷ []
+
+-- a float that is inside between two whole seconds and at neither; then a window that ends before it begins
+unfoldable pub windows : List String
+windows =
+    "A         1         0       100       100       500       500"
+    ∷ "Q         3         1       350       350       360       360"
+    ∷ "W         3         0         1       350       350       360       360"
+    ∷ "W         3         1         0       350       350       360       360"
+    ∷ []
+
+unfoldable pub windowsSay : List String
+windowsSay =
+    "A         0         1"
+    ∷ "Q         0         0         1         0         0"
+    ∷ "W         0         1         1         1         0         1"
+    ∷ "W        10         0"
     ∷ []
 
 -- damaged lines, then a call that lacks its newline

@@ -3,14 +3,12 @@
 use mathlib.Core.Path.{_≡_, refl, sym, ap, _∙_}
 use mathlib.Core.Bool.{Bool, true, false}
 use mathlib.Core.List.{List, [], _∷_, _++_}
-use Prim.Native.Nat.{ℕ, zero, suc, _+_, _-_, _≤_, _<_, _^_}
+use Prim.Native.Nat.{ℕ, zero, suc, _+_, _-_, _≤_, _<_}
 use native.Mathlib.Omega.{arith}
 use borrow.Author.Tests.{lt-ltb, le-ltb}
-use lib.IntN.{natAbs}
 use lib.ListN.{length, drop, length-replicate}
 use Rattle.ints.specs.Whole.{up}
-use Rattle.ints.proofs.Parts.{abs, one-part}
-use Rattle.grid.specs.Units.{cells, idMarks, lastTime}
+use Rattle.grid.specs.Units.{cells, idMarks}
 use Rattle.grid.specs.Reports.{isListed}
 use Rattle.rows.specs.Row.{emptyRow, isEmpty, sameRow}
 use Rattle.rows.specs.Phases.{phaseOf, isLive, slotOf, livePhases, lastPhase}
@@ -27,7 +25,7 @@ use Rattle.records.specs.Words.{Words, timeIn, recordsIn}
 use Rattle.records.specs.Soundness.{IsStore}
 use Rattle.records.specs.declared.Record.{Record}
 use Rattle.records.proofs.SoundnessLaws as Sound
-use Rattle.records.proofs.SoundnessRangeLaws.{between-from, last-phase}
+use Rattle.records.proofs.SoundnessRangeLaws.{last-phase}
 use Rattle.reading.specs.Reading.{ReadingOf, SmallReading, listedIn, cellsIn, usefulIn, withIds}
 use Rattle.reading.specs.Ids.{rising}
 use Rattle.reading.specs.declared.Reading.{Reading}
@@ -45,7 +43,7 @@ use Rattle.ledger.specs.declared.Verdict.the-variants.{Passed, Failed}
 use Rattle.asking.specs.Asking.{listedOf, foundIn, phasesNow, idsNeeded, idsFound, cellsCounted, usefulCounted, roundsCounted, AskOutcome, GivesList}
 use Rattle.asking.specs.Counted.{CanAsk, noIds, roomChecks, settledByRoom, CanChooseIn, CanReadIn, ReadIn, SmallCounts, CountedTogether, CountedIn, CountedOver}
 use Rattle.asking.specs.declared.Counts.{Counts}
-use Rattle.asking.proofs.AskingPhasesLaws.{FitAsk, fit-ask, good-method, asked-in}
+use Rattle.asking.proofs.AskingPhasesLaws.{FitAsk, fit-ask, good-method, fit-small, asked-in, small-times, can-count}
 use Rattle.asking.proofs.Claims.{list-is-exact}
 
 module _ (w : Words) (ask : Ask) (can : CanAsk w ask) where
@@ -64,19 +62,17 @@ module _ (w : Words) (ask : Ask) (can : CanAsk w ask) where
   pub can-choose : (p : ℕ) → isLive (phaseOf (timeIn w)) p ≡ true → CanChooseIn (w .table) ask p
   can-choose p live = record {
     slot = record { has-slot = record { whole-table = parts .table-long; one-of-three = slot-on p }; valid-rows = parts .valid };
-    can-see = record { is-time = fit .is-time; small-phase = small-phase p live };
+    can-see = record { times = can-count (timeIn w) p (small-phase p live) (ask .query .when) (fit .times) };
     is-ask = asked-in (timeIn w) (ask .query) fit (parts .store .time) p live;
     good-method = good-method ask (can .good-numbers);
   }
 
-  small-time : natAbs (ask .query .time) ≤ 2 ^ 30
-  small-time =
-      let asked = ask .query .time in
-      let f = between-from 0 lastTime asked (fit .is-time) in
-      omega (arith, abs asked, one-part asked)
-
   pub can-read : (ids : List ℕ) → length ids ≡ idMarks → CanReadIn (w .store) (ask .query) ids
-  can-read ids h = record { is-store = ask-store; small = record { small-time = small-time }; all-marks = h }
+  can-read ids h = record {
+    is-store = ask-store;
+    small = record { rect = fit-small (timeIn w) (ask .query) fit; times = small-times (timeIn w) (ask .query .when) (fit .times) };
+    all-marks = h;
+  }
 
 -- ---- bounds
 

@@ -3,32 +3,36 @@
 use mathlib.Core.Path.{_≡_, sym, ap, ap₂, _∙_}
 use mathlib.Core.Bool.{Bool, true, false, _&&_, not}
 use mathlib.Core.List.{List·Memᴰ}
-use Prim.Native.Nat.{ℕ, _*_}
+use Prim.Native.Nat.{ℕ, _*_, _≤_, _^_}
 use native.Mathlib.Omega.{arith}
 use lib.Dec.{eqb}
-use lib.IntN.{ℤ, pos, _+ℤ_, _-ℤ_}
+use lib.IntN.{ℤ, pos, natAbs, _+ℤ_, _-ℤ_}
 use lib.ListN.{length}
 use lib.Signed.{leZ}
 use borrow.Author.Tests.{eqb-true, eq-eqb, not-false}
 use Rattle.ints.specs.Whole.{between, up}
-use Rattle.ints.proofs.Parts.{signed, add, sub, le-true}
+use Rattle.ints.proofs.Parts.{signed, abs, one-part, add, sub, le-true}
 use Rattle.ints.proofs.Truth.{same-truth, and-true, and-left, and-right, or-neither}
 use Rattle.ints.proofs.Lists.{passing, passing-same, every-each}
+use Rattle.grid.specs.Units.{lastPosition, lastTime}
 use Rattle.grid.specs.Curve.{curveNumber}
 use Rattle.grid.specs.Reports.{isTime, isPosition, xAt, yAt, cellAtTime, isListed}
+use Rattle.grid.specs.Small.{SmallRect, SmallTimes}
 use Rattle.grid.specs.declared.Query.{Query}
 use Rattle.grid.specs.declared.Rect.{Rect}
+use Rattle.grid.specs.declared.When.{When}
+use Rattle.grid.specs.declared.When.the-variants.{At, During}
 use Rattle.grid.proofs.PlacesLaws.{cell-on}
 use Rattle.grid.proofs.CurveLaws.{number-below}
-use Rattle.rows.specs.Phases.{phaseOf, referenceTime, isLive, livePhases, slotOf}
+use Rattle.rows.specs.Phases.{phaseOf, referenceTime, sinceReference, isLive, livePhases, slotOf, lastPhase}
 use Rattle.rows.specs.Table.{rowAt}
 use Rattle.rows.proofs.PhasesLaws.{phase-is, live-range, same-slot, slot-on, listed-live}
 use Rattle.rows.proofs.TableLaws.{valid-row-at}
-use Rattle.methods.specs.Aims.{sliceOf, placedBy, heldBy}
+use Rattle.methods.specs.Aims.{seenFrom, viewOf, placedBy, heldBy}
 use Rattle.methods.specs.Fair.{InOrder}
 use Rattle.methods.specs.Slots.{rowsOfSlot}
 use Rattle.methods.specs.Slices.{IsSlice}
-use Rattle.reaching.specs.Reaching.{IsAsk}
+use Rattle.reaching.specs.Reaching.{IsAsk, IsViewAsk, CanCountAll}
 use Rattle.methods.specs.Claims.{ValidRows}
 use Rattle.methods.proofs.Claims.{listed-is-read}
 use Rattle.methods.proofs.Marks.{mark-of-cell}
@@ -36,11 +40,11 @@ use Rattle.records.specs.Words.{Words, timeIn, recordsIn}
 use Rattle.records.specs.Order.{slotOfKey, numberOfKey, phaseOfKey}
 use Rattle.records.specs.Soundness.{inOwnRow}
 use Rattle.records.specs.declared.Record.{Record}
-use Rattle.records.proofs.SoundnessRangeLaws.{time-from}
+use Rattle.records.proofs.SoundnessRangeLaws.{time-from, between-from}
 use Rattle.records.proofs.OrderKeysLaws.{number-of-key-in}
 use Rattle.records.proofs.SoundnessLaws.{SoundRecord, all-sound-each, Sound}
 use Rattle.reading.specs.Reading.{inSet, isRead}
-use Rattle.ledger.specs.Refusals.{badAskTime, badAsk, isRectangle}
+use Rattle.ledger.specs.Refusals.{outOfAskRange, badWhen, badAskTime, badAsk, isRectangle}
 use Rattle.ledger.specs.declared.Ask.{Ask}
 use Rattle.ledger.proofs.MachineSummedLaws.{summed-same, phases-summed}
 use Rattle.asking.specs.Asking.{choiceOf, marksIn, listedOf, idsNeeded}
@@ -50,21 +54,50 @@ use Rattle.asking.specs.Asking.{choiceOf, marksIn, listedOf, idsNeeded}
 pub good-method : (ask : Ask) → badAsk ask ≡ false → between (pos 0) (pos 3) (ask .method) ≡ true
 good-method ask k = and-left _ (isRectangle (ask .query .rect)) (not-false _ k)
 
+time-small : (t : ℤ) → isTime t ≡ true → natAbs t ≤ 2 ^ 30
+time-small t h = let f = between-from 0 lastTime t h in omega (arith, abs t, one-part t)
+
+-- one of its times
+pub record FitTime (now t : ℤ) : Type 0 where
+  pub is-time : isTime t ≡ true
+  pub near : between (now -ℤ pos 3600) (now +ℤ pos 7200) t ≡ true
+
+fit-time : (now t : ℤ) → outOfAskRange now t ≡ false → FitTime now t
+fit-time now t h =
+    let near = between (now -ℤ pos 3600) (now +ℤ pos 7200) t in
+    let neither = or-neither (not (isTime t)) (not near) h in
+    record { is-time = not-false (isTime t) (neither .0); near = not-false near (neither .1) }
+
+-- all of them
+abbrev pub FitWhen : ℤ → When → Type 0
+FitWhen now (At t) = FitTime now t
+FitWhen now (During first last) = FitTime now first × FitTime now last
+
+fit-when : (now : ℤ) (when : When) → badWhen now when ≡ false → FitWhen now when
+fit-when now (At t) h = fit-time now t h
+fit-when now (During first last) h =
+    let neither = or-neither (outOfAskRange now first) (outOfAskRange now last) h in
+    (fit-time now first (neither .0), fit-time now last (neither .1))
+
 pub record FitAsk (now : ℤ) (query : Query) : Type 0 where
-  pub is-time : isTime (query .time) ≡ true
-  pub near : between (now -ℤ pos 3600) (now +ℤ pos 7200) (query .time) ≡ true
+  pub times : FitWhen now (query .when)
   pub is-rectangle : isRectangle (query .rect) ≡ true
 
 pub fit-ask : (now : ℤ) (ask : Ask) → badAskTime now (ask .query) ≡ false → badAsk ask ≡ false → FitAsk now (ask .query)
 fit-ask now ask h k =
-    let asked = ask .query .time in
-    let near = between (now -ℤ pos 3600) (now +ℤ pos 7200) asked in
-    let neither = or-neither (not (isTime asked)) (not near) h in
     record {
-      is-time = not-false (isTime asked) (neither .0);
-      near = not-false near (neither .1);
+      times = fit-when now (ask .query .when) h;
       is-rectangle = and-right (between (pos 0) (pos 3) (ask .method)) _ (not-false _ k);
     }
+
+-- a rectangle that passed its check has its corners in order
+pub rectangle-ordered : (q : Rect) → isRectangle q ≡ true → InOrder q
+unfolding isRectangle
+rectangle-ordered q h =
+    let x = leZ (q .x .low) (q .x .high) in
+    let y = leZ (q .y .low) (q .y .high) in
+    let o = and-right ((isPosition (q .x .low) && isPosition (q .x .high)) && (isPosition (q .y .low) && isPosition (q .y .high))) (x && y) h in
+    record { x-ordered = and-left x y o; y-ordered = and-right x y o }
 
 module _ (now : ℤ) (query : Query) (fit : FitAsk now query) where
   abbrev q : Rect
@@ -84,37 +117,73 @@ module _ (now : ℤ) (query : Query) (fit : FitAsk now query) where
   parts = fit .is-rectangle
 
   pub fit-in-order : InOrder q
-  fit-in-order =
-      let o = and-right (seaX && seaY) ordered parts in
-      record { x-ordered = and-left (leZ (q .x .low) (q .x .high)) _ o; y-ordered = and-right (leZ (q .x .low) (q .x .high)) _ o }
+  fit-in-order = rectangle-ordered q (fit .is-rectangle)
 
-  -- in a live phase d is from -3,600 to 17,999
-  fit-slice : isTime now ≡ true → (p : ℕ) → isLive (phaseOf now) p ≡ true → IsSlice (sliceOf p query)
-  unfolding referenceTime
-  fit-slice time p live =
-      let asked = query .time in
-      let t = time-from now time in
-      let range = live-range (phaseOf now) p live in
-      let phase = phase-is now in
-      let low = sub now (pos 3600) in
-      let high = add now (pos 7200) in
-      let d = sub asked (pos (3600 * p)) in
-      let early = le-true (now -ℤ pos 3600) asked (and-left _ (leZ asked (now +ℤ pos 7200)) (fit .near)) in
-      let late = le-true asked (now +ℤ pos 7200) (and-right (leZ (now -ℤ pos 3600) asked) _ (fit .near)) in
-      record { in-order = fit-in-order; not-early = omega (arith, signed); not-late = omega (arith, signed) }
+  sea : seaX && seaY ≡ true
+  sea = and-left (seaX && seaY) ordered parts
 
-  pub asked-in : isTime now ≡ true → (p : ℕ) → isLive (phaseOf now) p ≡ true → IsAsk (sliceOf p query)
-  asked-in time p live =
-      let sea = and-left (seaX && seaY) ordered parts in
+  corner-small : (z : ℤ) → isPosition z ≡ true → natAbs z ≤ 2 ^ 45
+  corner-small z h = let f = between-from 0 lastPosition z h in omega (arith, abs z, one-part z)
+
+  -- no sum or product over the rectangle leaves 64 bits
+  pub fit-small : SmallRect q
+  fit-small =
       let x = and-left seaX seaY sea in
       let y = and-right seaX seaY sea in
       record {
-        low-x-in-sea = and-left (isPosition (q .x .low)) _ x;
-        high-x-in-sea = and-right (isPosition (q .x .low)) _ x;
-        low-y-in-sea = and-left (isPosition (q .y .low)) _ y;
-        high-y-in-sea = and-right (isPosition (q .y .low)) _ y;
-        is-slice = fit-slice time p live;
+        along-x = record {
+          small-low = corner-small (q .x .low) (and-left (isPosition (q .x .low)) _ x);
+          small-high = corner-small (q .x .high) (and-right (isPosition (q .x .low)) _ x);
+        };
+        along-y = record {
+          small-low = corner-small (q .y .low) (and-left (isPosition (q .y .low)) _ y);
+          small-high = corner-small (q .y .high) (and-right (isPosition (q .y .low)) _ y);
+        };
       }
+
+  module _ (time : isTime now ≡ true) (p : ℕ) (live : isLive (phaseOf now) p ≡ true) where
+    -- in a live phase d is from -3,600 to 17,999
+    fit-slice : (asked : ℤ) → FitTime now asked → IsSlice (record { rect = q; d = sinceReference p asked })
+    unfolding referenceTime
+    fit-slice asked f =
+        let t = time-from now time in
+        let range = live-range (phaseOf now) p live in
+        let phase = phase-is now in
+        let low = sub now (pos 3600) in
+        let high = add now (pos 7200) in
+        let d = sub asked (pos (3600 * p)) in
+        let early = le-true (now -ℤ pos 3600) asked (and-left _ (leZ asked (now +ℤ pos 7200)) (f .near)) in
+        let late = le-true asked (now +ℤ pos 7200) (and-right (leZ (now -ℤ pos 3600) asked) _ (f .near)) in
+        record { in-order = fit-in-order; not-early = omega (arith, signed); not-late = omega (arith, signed) }
+
+    asked-at : (asked : ℤ) → FitTime now asked → IsAsk (record { rect = q; d = sinceReference p asked })
+    asked-at asked f =
+        let x = and-left seaX seaY sea in
+        let y = and-right seaX seaY sea in
+        record {
+          low-x-in-sea = and-left (isPosition (q .x .low)) _ x;
+          high-x-in-sea = and-right (isPosition (q .x .low)) _ x;
+          low-y-in-sea = and-left (isPosition (q .y .low)) _ y;
+          high-y-in-sea = and-right (isPosition (q .y .low)) _ y;
+          is-slice = fit-slice asked f;
+        }
+
+    asked-when : (when : When) → FitWhen now when → IsViewAsk (seenFrom p q when)
+    asked-when (At t) f = asked-at t f
+    asked-when (During first last) f = record { first-ask = asked-at first (f .0); last-ask = asked-at last (f .1) }
+
+    pub asked-in : IsViewAsk (viewOf p query)
+    asked-in = asked-when (query .when) (fit .times)
+
+-- its times are small, and a phase can be subtracted from each
+pub small-times : (now : ℤ) (when : When) → FitWhen now when → SmallTimes when
+small-times now (At t) f = time-small t (f .is-time)
+small-times now (During first last) f = (time-small first (f .0 .is-time), time-small last (f .1 .is-time))
+
+pub can-count : (now : ℤ) (p : ℕ) → p ≤ lastPhase → (when : When) → FitWhen now when → CanCountAll when p
+can-count now p h (At t) f = record { is-time = f .is-time; small-phase = h }
+can-count now p h (During first last) f =
+    (record { is-time = f .0 .is-time; small-phase = h }, record { is-time = f .1 .is-time; small-phase = h })
 
 -- ---- reading in the live phases
 

@@ -15,13 +15,13 @@ use Rattle.ledger.specs.Machine.{putInOrder}
 use Rattle.ledger.specs.declared.Ask.{Ask}
 use Rattle.asking.specs.Asking.{idsNeeded, idsFound}
 
--- the ids of the records that a query lists, those whose position at its time is in its rectangle, by rising number
+-- the ids of the records that a query lists (`isListed`), by rising number
 unfoldable pub idsInside : Query → List Record → List ℕ
 idsInside query [] = []
 idsInside query (r ∷ rs) =
     cond (isListed query (r .report)) (putInOrder (up (r .report .id)) (idsInside query rs)) (idsInside query rs)
 
--- S3: the ids that an accepted ask writes are those of all held records whose position at the asked time is inside
+-- S3, A3: the ids that an accepted ask writes are those of all held records that its query lists: inside at its time, or at some moment of its window
 abbrev pub ListIsExact : Type 0
 ListIsExact =
     (w : Words)

@@ -14,9 +14,9 @@ use Rattle.grid.specs.Small.{SmallQuery}
 use Rattle.grid.specs.Units.{cells, lastId, idMarks}
 use Rattle.grid.specs.declared.Query.{Query}
 use Rattle.rows.specs.Phases.{phaseOf, isLive, slotOf}
-use Rattle.methods.specs.Aims.{sliceOf}
+use Rattle.methods.specs.Aims.{viewOf}
 use Rattle.choosing.specs.Bounds.{IsSlot}
-use Rattle.reaching.specs.Reaching.{IsAsk, CanSee}
+use Rattle.reaching.specs.Reaching.{IsViewAsk, CanSee}
 use Rattle.records.specs.Soundness.{IsStore}
 use Rattle.records.specs.Words.{Words, timeIn, areSound}
 use Rattle.reading.specs.Reading.{cellsIn, listedIn, usefulIn, withIds, ReadingOf, SmallReading, ReadTogether}
@@ -65,7 +65,7 @@ settledByRoom w ask list = askSettled (firstToFail (roomChecks (length list) (id
 pub record CanChooseIn (table : List ℤ) (ask : Ask) (p : ℕ) : Type 0 where
   pub slot : IsSlot table (slotOf p)
   pub can-see : CanSee (ask .query) p
-  pub is-ask : IsAsk (sliceOf p (ask .query))
+  pub is-ask : IsViewAsk (viewOf p (ask .query))
   pub good-method : between (pos 0) (pos 3) (ask .method) ≡ true
 
 -- a store in which any set of cells can be read, with marks for all ids

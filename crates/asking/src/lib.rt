@@ -72,9 +72,9 @@ fn choose_in(table: &[i16], p: usize, ask: Ask, marks: &mut [u8; grid::CELLS]) -
     ensures { λ r. ⌜ ChosenBy (up (ask .method)) (now (table .entry)) (slotOf p) (aimIn p (ask .query)) (now (marks .exit)) r ⌝ }
 {
     let slot = rows::slot_of(p);
-    let slice = reaching::slice_of(ask.query, p);
+    let view = reaching::view_of(ask.query, p);
     let number = number_of(ask);
-    choosing::choose::choose(table, slot, number, slice, marks)
+    choosing::choose::choose(table, slot, number, view, marks)
 }
 
 // Any set of cells of a live phase read.

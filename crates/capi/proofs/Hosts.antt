@@ -27,8 +27,8 @@ use Rattle.history.specs.Index.{LentCall, fedAll, idsWritten}
 use Rattle.history.proofs.Claims.{every-history-is-the-ledgers}
 use Rattle.grid.specs.Reports.{reportOf}
 use Rattle.capi.specs.Replies.{Replies, RepliesList}
-use Rattle.ledger.specs.Calls.{askOf}
-use Rattle.capi.specs.Hosts.{HostCall, clock, add, report, drop, ask, callOf, listOf, fed, Seen, idsIn, seenOf, Changes, Asks, Made, AllMade, none, one, HostsSeeTheLedger}
+use Rattle.ledger.specs.Calls.{askOf, windowOf}
+use Rattle.capi.specs.Hosts.{HostCall, clock, add, report, drop, ask, ask-window, callOf, listOf, fed, Seen, idsIn, seenOf, Changes, Asks, Made, AllMade, none, one, HostsSeeTheLedger}
 use Rattle.capi.specs.declared.Reply.{Reply}
 
 -- the same call to the index's definition
@@ -81,6 +81,9 @@ agrees w (drop id t) seen after m =
     let c = changed (firstToFail (checksOf w (Call.Change (Change.Drop id t)) 0)) w _ seen after m in record { seen-is = c .0; words-are = c .1 }
 agrees w (ask method time lowX lowY highX highY list) seen after m =
     let k = askOf method time lowX lowY highX highY in
+    record { seen-is = asked (firstToFail (checksOf w (Call.Ask k) (length list))) w k list seen after m; words-are = m .words-stay }
+agrees w (ask-window method first last lowX lowY highX highY list) seen after m =
+    let k = windowOf method first last lowX lowY highX highY in
     record { seen-is = asked (firstToFail (checksOf w (Call.Ask k) (length list))) w k list seen after m; words-are = m .words-stay }
 
 -- a list of calls

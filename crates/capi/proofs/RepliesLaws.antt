@@ -1,4 +1,4 @@
--- A call that gives its definition's outcome, and whose answer is told as document 01's numbers, replies as its contract says.
+-- A call that gives its definition's outcome, and whose answer is told as the documents' numbers, replies as its contract says.
 -- Assumes nothing.
 use mathlib.Core.Path.{_≡_, ap, _∙_}
 use mathlib.Core.List.{List}

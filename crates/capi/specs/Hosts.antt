@@ -17,16 +17,17 @@ use Rattle.ledger.specs.declared.Change.the-variants as Change
 use Rattle.grid.specs.Reports.{reportOf}
 use Rattle.engine.specs.Index.{openOut, clockOut, changeOut, askOut}
 use Rattle.capi.specs.Replies.{replyOf, Replies, RepliesList}
-use Rattle.ledger.specs.Calls.{askOf}
+use Rattle.ledger.specs.Calls.{askOf, windowOf}
 use Rattle.capi.specs.declared.Reply.{Reply}
 
--- an exported call with its numbers, in the order of its parameters; an ask with the list that it is lent
+-- an exported call with its numbers, in the order of its parameters; each ask with the list that it is lent
 pub data HostCall : Type 0 where
   clock : ℤ → HostCall
   add : ℤ → ℤ → ℤ → ℤ → ℤ → ℤ → HostCall
   report : ℤ → ℤ → ℤ → ℤ → ℤ → ℤ → HostCall
   drop : ℤ → ℤ → HostCall
   ask : ℤ → ℤ → ℤ → ℤ → ℤ → ℤ → List ℕ → HostCall
+  ask-window : ℤ → ℤ → ℤ → ℤ → ℤ → ℤ → ℤ → List ℕ → HostCall
 
 -- the call that it is, and the list that it is lent
 unfoldable pub callOf : HostCall → Call
@@ -35,6 +36,7 @@ callOf (add id t x y vx vy) = Call.Change (Change.Add (reportOf id t x y vx vy))
 callOf (report id t x y vx vy) = Call.Change (Change.Report (reportOf id t x y vx vy))
 callOf (drop id t) = Call.Change (Change.Drop id t)
 callOf (ask method asked lowX lowY highX highY list) = Call.Ask (askOf method asked lowX lowY highX highY)
+callOf (ask-window method first last lowX lowY highX highY list) = Call.Ask (windowOf method first last lowX lowY highX highY)
 
 unfoldable pub listOf : HostCall → List ℕ
 listOf (clock t) = []
@@ -42,6 +44,7 @@ listOf (add id t x y vx vy) = []
 listOf (report id t x y vx vy) = []
 listOf (drop id t) = []
 listOf (ask method asked lowX lowY highX highY list) = list
+listOf (ask-window method first last lowX lowY highX highY list) = list
 
 -- what the ledger is fed of it
 abbrev pub fed : HostCall → Ledger.Fed
@@ -78,6 +81,8 @@ Made w (report id t x y vx vy) seen after = Changes (Replies (changeOut w (Chang
 Made w (drop id t) seen after = Changes (Replies (changeOut w (Change.Drop id t))) seen after
 Made w (ask method asked lowX lowY highX highY list) seen after =
     Asks (RepliesList (askOut w (askOf method asked lowX lowY highX highY) list)) w seen after
+Made w (ask-window method first last lowX lowY highX highY list) seen after =
+    Asks (RepliesList (askOut w (windowOf method first last lowX lowY highX highY) list)) w seen after
 
 -- calls made one after the other, each lent the words as the one before left them, and what was seen of each
 pub data AllMade : Words → List HostCall → List Seen → Type 0 where

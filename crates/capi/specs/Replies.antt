@@ -1,4 +1,4 @@
--- What an exported call gives back and leaves: document 01's number, value and counts of the answer in its definition, and that definition's words.
+-- What an exported call gives back and leaves: the documents' number, value and counts of the answer in its definition, and that definition's words.
 -- Assumes nothing.
 use mathlib.Core.Path.{_≡_}
 use mathlib.Core.List.{List}

@@ -1,12 +1,12 @@
-// The index for programs in C and Rust: the six calls over pointers and lengths, with any numbers and any buffers, and the soundness test alone.
-// Each call gives back the number, the value and the counts that document 01 has for its answer, and leaves the words that its definition says.
+// The index for programs in C and Rust: the seven calls over pointers and lengths, with any numbers and any buffers, and the soundness test alone.
+// Each call gives back the number, the value and the counts that the documents have for its answer, and leaves the words that its definition says.
 ghost use mathlib.Core.Path.{_≡_};
 ghost use Rattle.records.specs.Words.{words, areSound};
 ghost use Rattle.ledger.specs.declared.Change.the-variants as Change;
 ghost use Rattle.engine.specs.Index.{openOut, clockOut, changeOut, askOut};
 ghost use Rattle.grid.specs.Reports.{reportOf};
 ghost use Rattle.capi.specs.Replies.{replyOf, plain, Replies, RepliesList};
-ghost use Rattle.ledger.specs.Calls.{askOf};
+ghost use Rattle.ledger.specs.Calls.{askOf, windowOf};
 use grid::Report;
 use ledger::Answer;
 use ledger::Ask;
@@ -141,6 +141,30 @@ pub extern "C" fn float_index_ask(
         table,
         list,
         Ask::of(method, asked, low_x, low_y, high_x, high_y),
+    ))
+}
+
+// The same at some moment from a first time to a last one, fractions of a second included.
+#[no_mangle]
+pub extern "C" fn float_index_ask_window(
+    store: &[i32],
+    table: &[i16],
+    list: &mut [u16],
+    method: i32,
+    first: i32,
+    last: i32,
+    low_x: i32,
+    low_y: i32,
+    high_x: i32,
+    high_y: i32,
+) -> Reply
+    ensures { λ r. ⌜ RepliesList (askOut (words (now (store .entry)) (now (table .entry))) (windowOf method first last «low_x» «low_y» «high_x» «high_y») (now (list .entry))) r (now (list .exit)) ⌝ }
+{
+    reply_of(engine::ask(
+        store,
+        table,
+        list,
+        Ask::window(method, first, last, low_x, low_y, high_x, high_y),
     ))
 }
 

@@ -6,13 +6,13 @@ use Prim.Native.Nat.{ℕ}
 use lib.IntN.{ℤ}
 use lib.ListN.{length}
 use Rattle.grid.specs.Units.{cells}
-use Rattle.methods.specs.Aims.{Aim, sliceAim}
+use Rattle.methods.specs.Aims.{Aim, aimOf}
 use Rattle.methods.specs.Methods.{Found, found, unlessMissing, naiveBlock, Search, choice}
 use Rattle.methods.specs.Slots.{rowsOfSlot}
 use Rattle.methods.specs.Marks.{marksOf}
 use Rattle.methods.specs.declared.Block.{Block}
-use Rattle.methods.specs.declared.Slice.{Slice}
-use Rattle.reaching.specs.Reaching.{IsAsk}
+use Rattle.methods.specs.declared.View.{View}
+use Rattle.reaching.specs.Reaching.{IsViewAsk}
 use Rattle.choosing.specs.Bounds.{IsSlot, BlockOnGrid}
 use Rattle.choosing.specs.Mark.{noMarks, CanSearch}
 use Rattle.choosing.specs.declared.FoundBlock.{FoundBlock}
@@ -21,14 +21,14 @@ use Rattle.choosing.specs.declared.Searched.{Searched}
 -- ---- what is asked
 
 -- to choose, and to choose where the naive block is found and no mark is set yet
-pub record CanChoose (table : List ℤ) (slot : ℕ) (s : Slice) (marks : List ℕ) : Type 0 where
+pub record CanChoose (table : List ℤ) (slot : ℕ) (v : View) (marks : List ℕ) : Type 0 where
   pub of-slot : IsSlot table slot
-  pub ask : IsAsk s
+  pub ask : IsViewAsk v
   pub one-each : length marks ≡ cells
 
-pub record CanChooseWithin (table : List ℤ) (slot : ℕ) (s : Slice) (naive : Block) (marks : List ℕ) : Type 0 where
-  pub from-naive : CanSearch table slot s naive
-  pub is-naive : naiveBlock (rowsOfSlot table slot) (sliceAim s) ≡ found naive
+pub record CanChooseWithin (table : List ℤ) (slot : ℕ) (v : View) (naive : Block) (marks : List ℕ) : Type 0 where
+  pub from-naive : CanSearch table slot v naive
+  pub is-naive : naiveBlock (rowsOfSlot table slot) (aimOf v) ≡ found naive
   pub none-set : marks ≡ noMarks
 
 -- ---- what is given back

@@ -11,8 +11,8 @@ use Rattle.grid.specs.Curve.{IsCurve}
 use Rattle.grid.specs.declared.Cell.{Cell}
 use Rattle.methods.specs.Marks.{withCells}
 use Rattle.methods.specs.declared.Block.{Block}
-use Rattle.methods.specs.declared.Slice.{Slice}
-use Rattle.reaching.specs.Reaching.{IsAsk}
+use Rattle.methods.specs.declared.View.{View}
+use Rattle.reaching.specs.Reaching.{IsViewAsk}
 use Rattle.choosing.specs.Bounds.{IsSlot, BlockOnGrid}
 
 -- no mark is set
@@ -42,27 +42,27 @@ pub record CanMarkCell (numbers : List ℕ) (c : Cell) (marks : List ℕ) : Type
 -- ---- the same for what is reached
 
 -- to search from a block
-pub record CanSearch (table : List ℤ) (slot : ℕ) (s : Slice) (b : Block) : Type 0 where
+pub record CanSearch (table : List ℤ) (slot : ℕ) (v : View) (b : Block) : Type 0 where
   pub of-slot : IsSlot table slot
-  pub ask : IsAsk s
+  pub ask : IsViewAsk v
   pub block-on : BlockOnGrid b
 
-pub record CanMarkReached (table : List ℤ) (slot : ℕ) (s : Slice) (b : Block) (marks : List ℕ) : Type 0 where
-  pub from-block : CanSearch table slot s b
+pub record CanMarkReached (table : List ℤ) (slot : ℕ) (v : View) (b : Block) (marks : List ℕ) : Type 0 where
+  pub from-block : CanSearch table slot v b
   pub one-each : length marks ≡ cells
 
-pub record CanMarkReachedInRow (numbers : List ℕ) (table : List ℤ) (slot : ℕ) (s : Slice) (b : Block) (row : ℕ) (marks : List ℕ) : Type 0 where
+pub record CanMarkReachedInRow (numbers : List ℕ) (table : List ℤ) (slot : ℕ) (v : View) (b : Block) (row : ℕ) (marks : List ℕ) : Type 0 where
   pub curve : IsCurve numbers
-  pub from-block : CanSearch table slot s b
+  pub from-block : CanSearch table slot v b
   pub row-on : row < side
   pub one-each : length marks ≡ cells
 
-pub record CanTest (numbers : List ℕ) (table : List ℤ) (slot : ℕ) (s : Slice) (c : Cell) : Type 0 where
+pub record CanTest (numbers : List ℕ) (table : List ℤ) (slot : ℕ) (v : View) (c : Cell) : Type 0 where
   pub curve : IsCurve numbers
   pub of-slot : IsSlot table slot
-  pub ask : IsAsk s
+  pub ask : IsViewAsk v
   pub on-grid : OnGrid c
 
-pub record CanMarkIfReached (numbers : List ℕ) (table : List ℤ) (slot : ℕ) (s : Slice) (c : Cell) (marks : List ℕ) : Type 0 where
-  pub to-test : CanTest numbers table slot s c
+pub record CanMarkIfReached (numbers : List ℕ) (table : List ℤ) (slot : ℕ) (v : View) (c : Cell) (marks : List ℕ) : Type 0 where
+  pub to-test : CanTest numbers table slot v c
   pub one-each : length marks ≡ cells

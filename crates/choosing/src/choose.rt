@@ -1,11 +1,11 @@
 // The four methods, each by its number, over the rows of one slot of a lent table.
 ghost use Rattle.rows.specs.Row.{emptyRow};
-ghost use Rattle.methods.specs.Aims.{sliceAim};
+ghost use Rattle.methods.specs.Aims.{aimOf};
 ghost use Rattle.methods.specs.Methods.{cellsFound, unlessMissing, expandedBlock, iterated, mostRounds};
 ghost use Rattle.methods.specs.Slots.{rowsOfSlot};
 ghost use Rattle.choosing.specs.Choose.{FoundIs, SearchIs, ChosenBy, CanChoose, CanChooseWithin};
 ghost use Rattle.choosing.specs.Mark.{Marked, CanMarkBlock, CanSearch};
-ghost use Rattle.reaching.specs.Reaching.{CanExpand};
+ghost use Rattle.reaching.specs.Reaching.{CanExpandView};
 use crate::FoundBlock;
 use crate::Searched;
 use crate::bounds::block_bounds;
@@ -14,7 +14,7 @@ use crate::mark::clear;
 use crate::mark::mark_block;
 use crate::mark::mark_reached;
 use methods::Block;
-use methods::Slice;
+use methods::View;
 use reaching::block_of;
 use reaching::expanded;
 use rows::Row;
@@ -23,13 +23,13 @@ use rows::Row;
 const MOST_ROUNDS: usize = grid::SIDE + grid::SIDE;
 
 // The block of the rectangle expanded by bounds.
-fn expanded_block(bounds: Row, slice: Slice) -> FoundBlock
-    requires { ⌜ CanExpand slice bounds ⌝ }
-    ensures { λ r. ⌜ FoundIs r (expandedBlock bounds (sliceAim slice)) ⌝ }
+fn expanded_block(bounds: Row, view: View) -> FoundBlock
+    requires { ⌜ CanExpandView view bounds ⌝ }
+    ensures { λ r. ⌜ FoundIs r (expandedBlock bounds (aimOf view)) ⌝ }
 {
     FoundBlock {
         missing: bounds.is_empty(),
-        block: block_of(expanded(slice, bounds)),
+        block: block_of(expanded(view, bounds)),
     }
 }
 
@@ -45,9 +45,9 @@ fn mark_found(f: FoundBlock, marks: &mut [u8])
 }
 
 // The rounds of the iterative method, from the naive block.
-fn search(table: &[i16], slot: usize, slice: Slice, naive: Block) -> Searched
-    requires { ⌜ CanSearch (now table) slot slice naive ⌝ }
-    ensures { λ r. ⌜ SearchIs r (iterated mostRounds (rowsOfSlot (now (table .entry)) slot) (sliceAim slice) emptyRow naive 0) ⌝ }
+fn search(table: &[i16], slot: usize, view: View, naive: Block) -> Searched
+    requires { ⌜ CanSearch (now table) slot view naive ⌝ }
+    ensures { λ r. ⌜ SearchIs r (iterated mostRounds (rowsOfSlot (now (table .entry)) slot) (aimOf view) emptyRow naive 0) ⌝ }
 {
     let mut before = Row::empty();
     let mut block = naive;
@@ -67,7 +67,7 @@ fn search(table: &[i16], slot: usize, slice: Slice, naive: Block) -> Searched
             break;
         }
         before = bounds;
-        block = block_of(expanded(slice, bounds));
+        block = block_of(expanded(view, bounds));
         rounds += 1;
     }
     Searched {
@@ -84,41 +84,41 @@ fn choose_within(
     table: &[i16],
     slot: usize,
     method: usize,
-    slice: Slice,
+    view: View,
     naive: Block,
     marks: &mut [u8],
 ) -> usize
-    requires { ⌜ CanChooseWithin (now table) slot slice naive (now marks) ⌝ }
-    ensures { λ r. ⌜ ChosenBy method (now (table .entry)) slot (sliceAim slice) (now (marks .exit)) r ⌝ }
+    requires { ⌜ CanChooseWithin (now table) slot view naive (now marks) ⌝ }
+    ensures { λ r. ⌜ ChosenBy method (now (table .entry)) slot (aimOf view) (now (marks .exit)) r ⌝ }
 {
     if method == 0 {
         mark_block(naive, marks);
         return 0;
     }
     if method == 1 {
-        let narrowed = expanded_block(block_bounds(table, slot, naive), slice);
+        let narrowed = expanded_block(block_bounds(table, slot, naive), view);
         mark_found(narrowed, marks);
         return 0;
     }
     if method == 2 {
-        let s = search(table, slot, slice, naive);
+        let s = search(table, slot, view, naive);
         mark_found(s.found, marks);
         return s.rounds;
     }
-    mark_reached(table, slot, naive, slice, marks);
+    mark_reached(table, slot, naive, view, marks);
     0
 }
 
 // The choice of a method, as marks by curve number, and its rounds. How many cells are marked is not given: cells are counted where they are read.
 // Every number from 3 on is the optimal method.
-pub fn choose(table: &[i16], slot: usize, method: usize, slice: Slice, marks: &mut [u8]) -> usize
-    requires { ⌜ CanChoose (now table) slot slice (now marks) ⌝ }
-    ensures { λ r. ⌜ ChosenBy method (now (table .entry)) slot (sliceAim slice) (now (marks .exit)) r ⌝ }
+pub fn choose(table: &[i16], slot: usize, method: usize, view: View, marks: &mut [u8]) -> usize
+    requires { ⌜ CanChoose (now table) slot view (now marks) ⌝ }
+    ensures { λ r. ⌜ ChosenBy method (now (table .entry)) slot (aimOf view) (now (marks .exit)) r ⌝ }
 {
     clear(marks);
-    let naive = expanded_block(phase_bounds(table, slot), slice);
+    let naive = expanded_block(phase_bounds(table, slot), view);
     if naive.missing {
         return 0;
     }
-    choose_within(table, slot, method, slice, naive.block, marks)
+    choose_within(table, slot, method, view, naive.block, marks)
 }

@@ -4,7 +4,7 @@ ghost use mathlib.Core.List.{[], _∷_};
 ghost use lib.ListN.{length};
 ghost use Rattle.grid.specs.Units.{cells};
 ghost use Rattle.methods.specs.Reach.{columnsOf, cellsOfRow, cellsOf};
-ghost use Rattle.methods.specs.Aims.{sliceAim};
+ghost use Rattle.methods.specs.Aims.{aimOf};
 ghost use Rattle.methods.specs.Methods.{isReached, reached};
 ghost use Rattle.methods.specs.Slots.{rowsOfSlot};
 ghost use Rattle.methods.specs.Marks.{withCells};
@@ -12,7 +12,7 @@ ghost use Rattle.choosing.specs.Mark.{noMarks, Marked, CanMarkBlock, Can
 use crate::bounds::row_of_cell;
 use grid::Cell;
 use methods::Block;
-use methods::Slice;
+use methods::View;
 use reaching::cell_meets;
 
 // Every mark taken away.
@@ -74,16 +74,16 @@ pub fn is_reached(
     table: &[i16],
     slot: usize,
     c: Cell,
-    slice: Slice,
+    view: View,
 ) -> bool
-    requires { ⌜ CanTest (now numbers) (now table) slot slice c ⌝ }
-    ensures { λ r. ⌜ r ≡ isReached (rowsOfSlot (now (table .entry)) slot) (sliceAim slice) c ⌝ }
+    requires { ⌜ CanTest (now numbers) (now table) slot view c ⌝ }
+    ensures { λ r. ⌜ r ≡ isReached (rowsOfSlot (now (table .entry)) slot) (aimOf view) c ⌝ }
 {
     let row = row_of_cell(numbers, table, slot, c);
     if row.is_empty() {
         return false;
     }
-    cell_meets(slice, c, row)
+    cell_meets(view, c, row)
 }
 
 // Marks a cell if it is reached.
@@ -92,13 +92,13 @@ fn mark_if_reached(
     table: &[i16],
     slot: usize,
     c: Cell,
-    slice: Slice,
+    view: View,
     marks: &mut [u8],
 )
-    requires { ⌜ CanMarkIfReached (now numbers) (now table) slot slice c (now marks) ⌝ }
-    ensures { λ u. ⌜ Marked (now (marks .entry)) (reached (rowsOfSlot (now (table .entry)) slot) (sliceAim slice) (c ∷ [])) (now (marks .exit)) ⌝ }
+    requires { ⌜ CanMarkIfReached (now numbers) (now table) slot view c (now marks) ⌝ }
+    ensures { λ u. ⌜ Marked (now (marks .entry)) (reached (rowsOfSlot (now (table .entry)) slot) (aimOf view) (c ∷ [])) (now (marks .exit)) ⌝ }
 {
-    if !is_reached(numbers, table, slot, c, slice) {
+    if !is_reached(numbers, table, slot, c, view) {
         return;
     }
     mark_cell(numbers, c, marks);
@@ -111,11 +111,11 @@ fn mark_reached_in_row(
     slot: usize,
     b: Block,
     row: usize,
-    slice: Slice,
+    view: View,
     marks: &mut [u8],
 )
-    requires { ⌜ CanMarkReachedInRow (now numbers) (now table) slot slice b row (now marks) ⌝ }
-    ensures { λ u. ⌜ Marked (now (marks .entry)) (reached (rowsOfSlot (now (table .entry)) slot) (sliceAim slice) (cellsOfRow row (b .«first_column») (columnsOf b))) (now (marks .exit)) ⌝ }
+    requires { ⌜ CanMarkReachedInRow (now numbers) (now table) slot view b row (now marks) ⌝ }
+    ensures { λ u. ⌜ Marked (now (marks .entry)) (reached (rowsOfSlot (now (table .entry)) slot) (aimOf view) (cellsOfRow row (b .«first_column») (columnsOf b))) (now (marks .exit)) ⌝ }
 {
     let mut column = b.first_column;
     while column < b.last_column + 1 {
@@ -127,7 +127,7 @@ fn mark_reached_in_row(
                 column: column,
                 row: row,
             },
-            slice,
+            view,
             marks,
         );
         column += 1;
@@ -135,14 +135,14 @@ fn mark_reached_in_row(
 }
 
 // Marks those of a block's cells that are reached.
-pub fn mark_reached(table: &[i16], slot: usize, b: Block, slice: Slice, marks: &mut [u8])
-    requires { ⌜ CanMarkReached (now table) slot slice b (now marks) ⌝ }
-    ensures { λ u. ⌜ Marked (now (marks .entry)) (reached (rowsOfSlot (now (table .entry)) slot) (sliceAim slice) (cellsOf b)) (now (marks .exit)) ⌝ }
+pub fn mark_reached(table: &[i16], slot: usize, b: Block, view: View, marks: &mut [u8])
+    requires { ⌜ CanMarkReached (now table) slot view b (now marks) ⌝ }
+    ensures { λ u. ⌜ Marked (now (marks .entry)) (reached (rowsOfSlot (now (table .entry)) slot) (aimOf view) (cellsOf b)) (now (marks .exit)) ⌝ }
 {
     let numbers = grid::curve_numbers();
     let mut row = b.first_row;
     while row < b.last_row + 1 {
-        mark_reached_in_row(&numbers, table, slot, b, row, slice, marks);
+        mark_reached_in_row(&numbers, table, slot, b, row, view, marks);
         row += 1;
     }
 }

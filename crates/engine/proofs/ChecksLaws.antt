@@ -3,7 +3,6 @@
 use mathlib.Core.Path.{_≡_, refl, sym, ap, _∙_}
 use mathlib.Core.Bool.{Bool, true, false, not, _&&_}
 use mathlib.Core.List.{List, [], _∷_}
-use Prim.Native.Nat.{ℕ}
 use native.Mathlib.Omega.{arith}
 use lib.Dec.{eqb, leb}
 use lib.IntN.{ℤ}
@@ -27,7 +26,7 @@ use Rattle.store.proofs.SteppingLaws.{has-stepped, stepped-length}
 use Rattle.words.specs.Words.{stepped}
 use Rattle.words.specs.Needs.{RightLengths, CanStep, CanPlace, CanReplace}
 use Rattle.words.proofs.WordsSteppedLaws.{stepped-records, stepped-can-change}
-use Rattle.ledger.specs.Refusals.{Check, check, unless, firstToFail, badTime, badStepTime, badAskTime, badAsk, timeOf, idOf, badNumbers, heldChecks, changeChecks, askChecks}
+use Rattle.ledger.specs.Refusals.{Check, check, unless, firstToFail, badTime, badStepTime, timeOf, idOf, badNumbers, heldChecks, changeChecks, askNumberChecks}
 use Rattle.ledger.specs.declared.Ask.{Ask}
 use Rattle.ledger.specs.declared.Change.{Change}
 use Rattle.ledger.specs.declared.Change.the-variants as Change
@@ -35,8 +34,8 @@ use Rattle.ledger.specs.declared.Refusal.{Refusal}
 use Rattle.ledger.specs.declared.Refusal.the-variants.{WrongLength, Unsound, BadTime, BadNumber, AlreadyHeld, NotHeld, Full}
 use Rattle.ledger.specs.declared.Verdict.{Verdict}
 use Rattle.ledger.specs.declared.Verdict.the-variants.{Passed, Failed}
-use Rattle.ledger.proofs.RefusalsLaws.{passes, not-both, first-passed, others-passed}
-use Rattle.asking.specs.Counted.{CanAsk, roomChecks}
+use Rattle.ledger.proofs.RefusalsLaws.{passes, not-both, first-passed, others-passed, ask-good}
+use Rattle.asking.specs.Counted.{CanAsk}
 use Rattle.engine.specs.Checks.{wrongLength, unsound, lentChecks, openChecks, checksOfChange}
 use Rattle.engine.specs.Sound.{CanMake, CanApply}
 
@@ -98,32 +97,10 @@ module _ (w : Words) (sound : areSound w ≡ true) where
       let later = n .1 in
       record { sound = sound; is-time = not-false (isTime t) (n .0); not-past = omega (arith, signed) }
 
-  pub ask-passed : (ask : Ask) → firstToFail (check (badAskTime (timeIn w) (ask .query)) BadTime ∷ check (badAsk ask) BadNumber ∷ []) ≡ Passed → CanAsk w ask
+  pub ask-passed : (ask : Ask) → firstToFail (askNumberChecks (timeIn w) ask) ≡ Passed → CanAsk w ask
   ask-passed ask p =
-      let late = badAskTime (timeIn w) (ask .query) in
-      let bad = badAsk ask in
-      let rest = check bad BadNumber ∷ [] in
-      record { sound = sound; good-time = first-passed late BadTime rest p; good-numbers = first-passed bad BadNumber [] (others-passed late BadTime rest p) }
-
--- an ask that passed the checks up to 4 has the room's left, and one that did not is refused all the same
-module _ (now : ℤ) (ask : Ask) (room needed : ℕ) where
-  abbrev late : Bool
-  late = badAskTime now (ask .query)
-
-  abbrev bad : Bool
-  bad = badAsk ask
-
-  pub ask-failed : (r : Refusal) → firstToFail (check late BadTime ∷ check bad BadNumber ∷ []) ≡ Failed r → firstToFail (askChecks now ask room needed) ≡ Failed r
-  unfolding firstToFail
-  ask-failed r h = go late bad h
-    where
-      go : (a b : Bool) → unless a BadTime (unless b BadNumber Passed) ≡ Failed r → unless a BadTime (unless b BadNumber (firstToFail (roomChecks room needed))) ≡ Failed r
-      go true b k = k
-      go false true k = k
-      go false false k = absurd (not-both refl k)
-
-  pub room-left : late ≡ false → bad ≡ false → firstToFail (roomChecks room needed) ≡ firstToFail (askChecks now ask room needed)
-  room-left e f = passes late BadTime (check bad BadNumber ∷ roomChecks room needed) _ e (passes bad BadNumber (roomChecks room needed) _ f refl)
+      let good = ask-good (timeIn w) ask p in
+      record { sound = sound; good-time = good .good-time; good-numbers = good .good-numbers }
 
 -- ---- a change
 

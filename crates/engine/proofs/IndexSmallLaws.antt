@@ -194,7 +194,7 @@ module _ (w : Words) (sound : areSound w ≡ true) where
   unfolding askOut AllSmall
   ask-small ask list =
       ask-settled (firstToFail (checksOf w (Call.Ask ask) (length list))) ask list
-      (first-small (checksOf w (Call.Ask ask) (length list)) (none, (none, (none, (none, (needed ask, tt))))))
+      (first-small (checksOf w (Call.Ask ask) (length list)) (none, (none, (none, (none, (none, (needed ask, tt)))))))
 
   pub call-small : (call : Call) (list : List ℕ) → SmallAnswer (callOut w call list .answer)
   unfolding callOut

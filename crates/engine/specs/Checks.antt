@@ -1,5 +1,5 @@
--- The checks of each call of the index, in their order: document 01, "What a call gives back when it declines". Those that go by a call's numbers are
--- the ledger's; the index has the lent words to judge besides.
+-- The checks of each call of the index, in their order: document 01, "What a call gives back when it declines", and document 02, A3, for 10. Those that
+-- go by a call's numbers are the ledger's; the index has the lent words to judge besides.
 -- Assumes nothing.
 use mathlib.Core.Bool.{Bool, _&&_, not}
 use mathlib.Core.List.{List, [], _∷_}

@@ -1,4 +1,4 @@
-// The checks of the calls, in number order, the first to fail given: those of the lent buffers (`lent_verdict`), and those that go by the numbers
+// The checks of the calls, in their order, the first to fail given: those of the lent buffers (`lent_verdict`), and those that go by the numbers
 // and the records of buffers known to be sound.
 ghost use mathlib.Core.Path.{_≡_};
 ghost use mathlib.Core.Bool.{_&&_, not};
@@ -10,12 +10,12 @@ ghost use lib.Signed.{leZ};
 ghost use lib.ListN.{length};
 ghost use Rattle.ints.specs.Whole.{between};
 ghost use Rattle.grid.specs.Reports.{isTime, isId, isPosition};
-ghost use Rattle.grid.specs.Units.{capacity};
+ghost use Rattle.grid.specs.Units.{capacity, longestWindow};
 ghost use Rattle.records.specs.Records.{recordsOf, nowOf};
 ghost use Rattle.records.specs.Soundness.{IsStore};
 ghost use Rattle.records.specs.Words.{words};
-ghost use Rattle.ledger.specs.Refusals.{check, firstToFail, badStepTime, badAskTime, badAsk, isRectangle, clockChecks, badNumbers, heldChecks};
-ghost use Rattle.ledger.specs.declared.Refusal.the-variants.{BadTime, BadNumber, AlreadyHeld, NotHeld, Full};
+ghost use Rattle.ledger.specs.Refusals.{check, firstToFail, badStepTime, outOfAskRange, badAskTime, badWindow, badAsk, isRectangle, clockChecks, badNumbers, heldChecks, askNumberChecks};
+ghost use Rattle.ledger.specs.declared.Refusal.the-variants.{AlreadyHeld, NotHeld, Full};
 ghost use Rattle.engine.specs.Checks.{wrongLength, openChecks, lentChecks, checksOfChange};
 use grid::LAST_ID;
 use grid::LAST_POSITION;
@@ -23,6 +23,7 @@ use grid::LAST_TIME;
 use grid::Query;
 use grid::Range;
 use grid::Rect;
+use grid::When;
 use grid::wide_signed;
 use ledger::Ask;
 use ledger::Change;
@@ -36,6 +37,9 @@ const LAST_CORNER: i64 = LAST_POSITION as i64;
 const ASK_BEFORE: i64 = 3600;
 
 const ASK_AFTER: i64 = 7200;
+
+// How long a window may be, in seconds.
+const LONGEST_WINDOW: i64 = 3600;
 
 // 1: a buffer of another length.
 pub fn wrong_length(store: &[i32], table: &[i16]) -> bool
@@ -78,15 +82,48 @@ fn is_near(time: i64, asked: i64) -> bool
     time - ASK_BEFORE <= asked && asked <= time + ASK_AFTER
 }
 
-// 3, for ask.
+// Whether a time of an ask is outside its range: no time, or too far from the time of the store.
+fn out_of_ask_range(store: &[i32], t: i32) -> bool
+    requires { ⌜ 0 < length (now store) ⌝ }
+    ensures { λ r. ⌜ r ≡ outOfAskRange (nowOf (now (store .entry))) t ⌝ }
+{
+    if !is_time(t) {
+        return true;
+    }
+    !is_near(records::now_of(store), wide_signed(t))
+}
+
+// 3, for ask: of a window, either time.
 fn bad_ask_time(store: &[i32], query: Query) -> bool
     requires { ⌜ 0 < length (now store) ⌝ }
     ensures { λ r. ⌜ r ≡ badAskTime (nowOf (now (store .entry))) query ⌝ }
 {
-    if !is_time(query.time) {
-        return true;
+    let when = query.when;
+    match when {
+        When::At(t) => out_of_ask_range(store, t),
+        When::During(first, last) => out_of_ask_range(store, first)
+            || out_of_ask_range(store, last),
     }
-    !is_near(records::now_of(store), query.wide_time())
+}
+
+// Whether a window's last time is not before its first, and not too long after it.
+fn is_span(first: i32, last: i32) -> bool
+    ensures { λ r. ⌜ r ≡ between first (first +ℤ pos longestWindow) last ⌝ }
+{
+    let from = wide_signed(first);
+    let to = wide_signed(last);
+    from <= to && to <= from + LONGEST_WINDOW
+}
+
+// 10, for a window.
+fn bad_window(query: Query) -> bool
+    ensures { λ r. ⌜ r ≡ badWindow query ⌝ }
+{
+    let when = query.when;
+    match when {
+        When::At(_) => false,
+        When::During(first, last) => !is_span(first, last),
+    }
 }
 
 fn is_position(z: i64) -> bool
@@ -234,10 +271,13 @@ pub fn change_verdict(store: &[i32], c: Change) -> Verdict
 // The checks of an ask but the last, which wants the ids found.
 pub fn ask_verdict(store: &[i32], ask: Ask) -> Verdict
     requires { ⌜ IsStore (now store) ⌝ }
-    ensures { λ v. ⌜ v ≡ firstToFail (check (badAskTime (nowOf (now (store .entry))) (ask .query)) BadTime ∷ check (badAsk ask) BadNumber ∷ []) ⌝ }
+    ensures { λ v. ⌜ v ≡ firstToFail (askNumberChecks (nowOf (now (store .entry))) ask) ⌝ }
 {
     if bad_ask_time(store, ask.query) {
         return Verdict::Failed(Refusal::BadTime);
+    }
+    if bad_window(ask.query) {
+        return Verdict::Failed(Refusal::BadWindow);
     }
     if bad_ask(ask) {
         return Verdict::Failed(Refusal::BadNumber);

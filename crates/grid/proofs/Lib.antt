@@ -4,3 +4,7 @@ pub mod CurveLaws
 pub mod PlacesLaws
 pub mod Examples
 pub mod ReportsLaws
+pub mod SmallLaws
+pub mod MomentsCoreLaws
+pub mod MomentsOneTimeLaws
+pub mod MomentsLaws

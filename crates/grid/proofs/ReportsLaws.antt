@@ -9,7 +9,7 @@ use Rattle.grid.specs.Places.{positionAfter}
 use Rattle.grid.specs.Reports.{xAt, yAt}
 use Rattle.grid.specs.declared.Report.{Report}
 
-times-sum : (v a b : ℤ) → v *ℤ (a +ℤ b) ≡ v *ℤ a +ℤ v *ℤ b
+pub times-sum : (v a b : ℤ) → v *ℤ (a +ℤ b) ≡ v *ℤ a +ℤ v *ℤ b
 times-sum v a b =
     let whole = mul v (a +ℤ b) in
     let first = mul v a in
@@ -21,7 +21,8 @@ times-sum v a b =
 two-steps : (s t r : ℤ) → s -ℤ t ≡ (r -ℤ t) +ℤ (s -ℤ r)
 two-steps s t r = omega (arith, signed, sub s t, sub r t, sub s r, add (r -ℤ t) (s -ℤ r))
 
-moved-on : (x v s t r : ℤ) → positionAfter x v (s -ℤ t) ≡ positionAfter (positionAfter x v (r -ℤ t)) v (s -ℤ r)
+-- a position moved on from time t to r and then to s
+pub moved-on : (x v s t r : ℤ) → positionAfter x v (s -ℤ t) ≡ positionAfter (positionAfter x v (r -ℤ t)) v (s -ℤ r)
 moved-on x v s t r =
     ap (λ (d : ℤ). x +ℤ v *ℤ d) (two-steps s t r)
     ∙ ap (λ (d : ℤ). x +ℤ d) (times-sum v (r -ℤ t) (s -ℤ r))

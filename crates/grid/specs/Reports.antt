@@ -1,15 +1,18 @@
--- A float's report and where it says that the float is: document 01, "Units and the places on the grid". Positions are centimetres, speeds
--- centimetres per second, times seconds.
+-- A float's report, where it says that the float is, and when a query lists it: document 01, "Units and the places on the grid", and document 02, A3, for
+-- windows. Positions are centimetres, speeds centimetres per second, times seconds.
 -- Assumes nothing.
 use mathlib.Core.Bool.{Bool, _&&_}
 use lib.IntN.{ℤ, pos, negℤ, _-ℤ_}
 use Rattle.ints.specs.Whole.{between}
 use Rattle.grid.specs.Units.{lastPosition, speedLimit, lastTime, lastId}
 use Rattle.grid.specs.Places.{positionAfter, cellOf}
+use Rattle.grid.specs.Moments.{insideDuring}
 use Rattle.grid.specs.declared.Cell.{Cell}
 use Rattle.grid.specs.declared.Rect.{Rect}
 use Rattle.grid.specs.declared.Query.{Query}
 use Rattle.grid.specs.declared.Report.{Report}
+use Rattle.grid.specs.declared.When.{When}
+use Rattle.grid.specs.declared.When.the-variants.{At, During}
 
 -- ---- ranges
 
@@ -59,6 +62,15 @@ cellAtTime r s = cellOf (xAt r s) (yAt r s)
 unfoldable pub inRect : Rect → ℤ → ℤ → Bool
 inRect q x y = between (q .x .low) (q .x .high) x && between (q .y .low) (q .y .high) y
 
--- whether a timeslice query lists a float: its position at the query's time is in the query's rectangle
+-- at a time
+unfoldable pub insideAt : Rect → ℤ → Report → Bool
+insideAt q t r = inRect q (xAt r t) (yAt r t)
+
+-- whether a query lists a float: a timeslice, where the float's position at the time is in the rectangle; a window, where the float is in the rectangle
+-- at some moment of it
+abbrev pub insideWhen : Rect → When → Report → Bool
+insideWhen q (At t) r = insideAt q t r
+insideWhen q (During first last) r = insideDuring q first last r
+
 unfoldable pub isListed : Query → Report → Bool
-isListed query r = inRect (query .rect) (xAt r (query .time)) (yAt r (query .time))
+isListed query r = insideWhen (query .rect) (query .when) r

@@ -3,12 +3,15 @@
 ghost use mathlib.Core.Path.{_≡_};
 ghost use lib.IntN.{_-ℤ_};
 ghost use Rattle.grid.specs.Places.{positionAfter};
-ghost use Rattle.grid.specs.Reports.{rectOf, xAt, yAt, cellAtTime, inRect, isListed};
-ghost use Rattle.grid.specs.Small.{SmallAxis, SmallReport};
+ghost use Rattle.grid.specs.Moments.{passageOf, insideDuring};
+ghost use Rattle.grid.specs.Reports.{rectOf, xAt, yAt, cellAtTime, inRect, insideAt, isListed};
+ghost use Rattle.grid.specs.Small.{SmallAxis, SmallReport, SmallStartAt, SmallWindow, SmallListing};
 ghost use Rattle.ints.specs.Whole.{between};
+use moments::Passage;
 
 mod curve;
 mod curve_table;
+mod moments;
 mod places;
 
 pub use curve::curve_numbers;
@@ -58,10 +61,18 @@ pub struct Rect {
     pub y: Range,
 }
 
-// What an ask wants: document 01's timeslice query, the floats predicted inside a rectangle at a time (seconds).
+// When an ask wants floats in its rectangle, in seconds.
+pub enum When {
+    // At one time: document 01's timeslice query.
+    At(i32),
+    // At some moment from a first time to a last one: document 02's window ask.
+    During(i32, i32),
+}
+
+// What an ask wants: the floats predicted inside a rectangle, and when.
 pub struct Query {
     pub rect: Rect,
-    pub time: i32,
+    pub when: When,
 }
 
 // What a float sent: at time t it was at (x, y) and drifted at (vx, vy).
@@ -113,21 +124,20 @@ impl Rect {
     }
 }
 
-impl Query {
-    // Its time as a 64-bit number, in which no product of a speed and a time overflows.
-    pub fn wide_time(self) -> i64
-        ensures { λ r. ⌜ r ≡ self .time ⌝ }
-    {
-        wide_signed(self.time)
-    }
-}
-
 // Where a float is along one axis at time s, reported at time t at x with the speed v.
 fn position_at(x: i32, v: i32, t: i32, s: i64) -> i64
     requires { ⌜ SmallAxis x v t s ⌝ }
     ensures { λ r. ⌜ r ≡ positionAfter x v (s -ℤ t) ⌝ }
 {
     position_after(wide_signed(x), wide_signed(v), s - wide_signed(t))
+}
+
+// Its passage through a range from time s on.
+fn passage_from(s: i64, x: i32, v: i32, t: i32, range: Range) -> Passage
+    requires { ⌜ SmallStartAt s x v t range ⌝ }
+    ensures { λ r. ⌜ r ≡ passageOf (positionAfter x v (s -ℤ t)) v range ⌝ }
+{
+    Passage::of(position_at(x, v, t, s), wide_signed(v), range)
 }
 
 impl Report {
@@ -153,12 +163,37 @@ impl Report {
         cell_of(self.x_at(s), self.y_at(s))
     }
 
+    // Whether it is in a rectangle at a time.
+    fn is_inside_at(self, rect: Rect, time: i32) -> bool
+        requires { ⌜ SmallReport self time ⌝ }
+        ensures { λ r. ⌜ r ≡ insideAt rect time self ⌝ }
+    {
+        let s = wide_signed(time);
+        rect.holds(self.x_at(s), self.y_at(s))
+    }
+
+    // Whether it is in a rectangle at some moment from one time to another.
+    fn is_inside_during(self, rect: Rect, first: i32, last: i32) -> bool
+        requires { ⌜ SmallWindow self rect first last ⌝ }
+        ensures { λ r. ⌜ r ≡ insideDuring rect first last self ⌝ }
+    {
+        let from = wide_signed(first);
+        let d = wide_signed(last) - from;
+        let x = passage_from(from, self.x, self.vx, self.t, rect.x);
+        let y = passage_from(from, self.y, self.vy, self.t, rect.y);
+        moments::meet(x, y, d)
+    }
+
     // Whether a query lists the float.
     pub fn is_listed(self, query: Query) -> bool
-        requires { ⌜ SmallReport self (query .time) ⌝ }
+        requires { ⌜ SmallListing self query ⌝ }
         ensures { λ r. ⌜ r ≡ isListed query self ⌝ }
     {
-        let s = query.wide_time();
-        query.rect.holds(self.x_at(s), self.y_at(s))
+        let rect = query.rect;
+        let when = query.when;
+        match when {
+            When::At(time) => self.is_inside_at(rect, time),
+            When::During(first, last) => self.is_inside_during(rect, first, last),
+        }
     }
 }

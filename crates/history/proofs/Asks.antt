@@ -6,7 +6,6 @@ use mathlib.Core.Bool.{Bool, true, false, cond}
 use mathlib.Core.List.{List, [], _∷_, _++_, map, Memᴰ·cast, List·Memᴰ, List·Memᴰ·head, List·Memᴰ·tail, List·Memᴰ·cases-cons, List·Memᴰ·not-nil}
 use mathlib.Core.Logic.{_⊎_, inl, inr, ⊎-elim}
 use Prim.Native.Nat.{ℕ, _+_}
-use lib.Dec.{ltb}
 use lib.IntN.{ℤ}
 use lib.ListN.{length, take, drop}
 use lib.Seq.{take-append-seam}
@@ -33,20 +32,20 @@ use Rattle.records.proofs.OrderKeysLaws.{live-phase-of-key}
 use Rattle.records.proofs.SoundnessLaws.{Sound, sound-parts}
 use Rattle.reading.proofs.ReadingLaws.{idOf}
 use Rattle.ledger.specs.Answers.{isAccepted}
-use Rattle.ledger.specs.Refusals.{check, unless, firstToFail, badAskTime, badAsk, askChecks}
+use Rattle.ledger.specs.Refusals.{Check, firstToFail, askNumberChecks, askChecks}
 use Rattle.ledger.specs.Machine.{Ledger, Held, rowsIn, choiceAsked, listedHeld, isUseful, usefulCells, putInOrder, idsInOrder, summed, idsListed, cellsRead, usefulRead, roundsTaken}
 use Rattle.ledger.specs.Calls as L
 use Rattle.ledger.specs.Calls.{Reply, answerBy}
 use Rattle.ledger.specs.declared.Answer.{Answer}
 use Rattle.ledger.specs.declared.Answer.the-variants.{Listed}
-use Rattle.ledger.specs.declared.Refusal.the-variants.{BadTime, BadNumber, ListTooShort}
 use Rattle.ledger.specs.declared.Ask.{Ask}
 use Rattle.ledger.specs.declared.Call.the-variants as Call
 use Rattle.ledger.specs.declared.Verdict.{Verdict}
 use Rattle.ledger.specs.declared.Verdict.the-variants.{Passed, Failed}
 use Rattle.ledger.proofs.MachineIdsLaws.{put-comm}
 use Rattle.ledger.proofs.MachineSummedLaws.{summed-same}
-use Rattle.ledger.proofs.RefusalsLaws.{first-passed, others-passed}
+use Rattle.ledger.proofs.RefusalsLaws.{same-before, before-passed, ask-good}
+use Rattle.asking.specs.Counted.{roomChecks}
 use Rattle.asking.specs.Asking.{choiceOf, idsNeeded, idsFound, cellsCounted, usefulCounted, roundsCounted, askSettled}
 use Rattle.asking.specs.Claims.{idsInside}
 use Rattle.asking.proofs.AskingPhasesLaws.{FitAsk, fit-ask, isInside}
@@ -228,14 +227,6 @@ record SameNumbers (n c u r n′ c′ u′ r′ : ℕ) (ids ids′ : List ℕ) :
   same-ids : ids ≡ ids′
   as-many : n′ ≡ length ids′
 
--- the ids needed matter only where the checks before pass
-verdict-same : (late bad : Bool) (room n m : ℕ) → (late ≡ false → bad ≡ false → n ≡ m)
-    → unless late BadTime (unless bad BadNumber (unless (ltb room n) (ListTooShort n) Passed))
-    ≡ unless late BadTime (unless bad BadNumber (unless (ltb room m) (ListTooShort m) Passed))
-verdict-same true bad room n m h = refl
-verdict-same false true room n m h = refl
-verdict-same false false room n m h = ap (λ (k : ℕ). unless (ltb room k) (ListTooShort k) Passed) (h refl refl)
-
 abbrev pub ledgerReply : Answer → List ℕ → Reply
 ledgerReply a ids = record { answer = a; ids = cond (isAccepted a) ids [] }
 
@@ -258,28 +249,26 @@ ledger-reply l ask list = refl
 
 -- an ask of the index answers as the ledger does
 module _ (l : Ledger) (w : Words) (left : Left l w) (ask : Ask) (list : List ℕ) where
-  abbrev late : Bool
-  late = badAskTime (l .now) (ask .query)
-
-  abbrev bad : Bool
-  bad = badAsk ask
+  abbrev checks : List Check
+  checks = askNumberChecks (l .now) ask
 
   abbrev pub verdict : Verdict
   verdict = firstToFail (askChecks (l .now) ask (length list) (length (idsListed l ask)))
 
+  passed-numbers : firstToFail checks ≡ Passed → FitAsk (l .now) (ask .query)
+  passed-numbers p = let good = ask-good (l .now) ask p in fit-ask (l .now) ask (good .good-time) (good .good-numbers)
+
+  -- the ids needed matter only where the checks before pass
   same-verdict : firstToFail (checksOf w (Call.Ask ask) (length list)) ≡ verdict
-  unfolding firstToFail
   same-verdict =
       sym (sound-lent w (matching-sound l w (left .good) (left .matches)) (askChecks (timeIn w) ask (length list) (idsNeeded w ask)))
       ∙ ap (λ (now : ℤ). firstToFail (askChecks now ask (length list) (idsNeeded w ask))) (left .matches .time-is)
-      ∙ verdict-same late bad (length list) (idsNeeded w ask) (length (idsListed l ask)) (λ e f. needed-agrees l w left ask (fit-ask (l .now) ask e f))
+      ∙ same-before checks (roomChecks (length list) (idsNeeded w ask)) (roomChecks (length list) (length (idsListed l ask)))
+      (λ p. ap (λ (n : ℕ). firstToFail (roomChecks (length list) n)) (needed-agrees l w left ask (passed-numbers p)))
 
   -- an ask that passed its checks
   pub passed-fit : verdict ≡ Passed → FitAsk (l .now) (ask .query)
-  passed-fit p =
-      let room = check (ltb (length list) (length (idsListed l ask))) (ListTooShort (length (idsListed l ask))) ∷ [] in
-      fit-ask (l .now) ask (first-passed late BadTime (check bad BadNumber ∷ room) p)
-      (first-passed bad BadNumber room (others-passed late BadTime (check bad BadNumber ∷ room) p))
+  passed-fit p = passed-numbers (before-passed checks (roomChecks (length list) (length (idsListed l ask))) p)
 
   pub ask-agrees : replyTo w (asking ask list) ≡ L.replyTo l (fed (asking ask list))
   unfolding callOut askOut L.answerTo

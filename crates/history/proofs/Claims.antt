@@ -11,9 +11,9 @@ use Rattle.grid.specs.Units.{cells}
 use Rattle.grid.specs.Curve.{cellOfNumber}
 use Rattle.rows.specs.Phases.{phaseOf, livePhases}
 use Rattle.rows.proofs.PhasesLaws.{listed-live}
-use Rattle.methods.specs.Aims.{sliceOf, aimIn}
+use Rattle.methods.specs.Aims.{aimIn}
 use Rattle.methods.proofs.Claims.{methods-are-nested}
-use Rattle.methods.proofs.Timeslice.{timeslice-is-fair}
+use Rattle.methods.proofs.Views.{query-is-fair}
 use Rattle.records.specs.Words.{Words}
 use Rattle.ledger.specs.Answers.{isAccepted, countsOf}
 use Rattle.ledger.specs.Machine.{Ledger, rowsIn, heldAsked, choiceAsked, isUseful, usefulCells, summed, idsListed, cellsRead, usefulRead, roundsTaken}
@@ -82,7 +82,7 @@ module _ (l : Ledger) (w : Words) (left : Left l w) where
     nested = λ ask list a p m.
         let query = ask .query in
         let here = fit ask list a in
-        methods-are-nested (rowsIn l p) (valid-here l (left .good) query here p) (aimIn p query) (timeslice-is-fair (sliceOf p query) (in-order-here l (left .good) query here));
+        methods-are-nested (rowsIn l p) (valid-here l (left .good) query here p) (aimIn p query) (query-is-fair p query (in-order-here l (left .good) query here));
   }
 
 pub every-point-agrees : EveryPointAgrees

@@ -18,7 +18,7 @@ use Rattle.methods.specs.Slots.{rowsOfSlot}
 use Rattle.records.specs.Words.{Words, timeIn, recordsIn, areSound}
 use Rattle.records.proofs.SoundnessLaws.{sound-parts}
 use Rattle.ledger.specs.Answers.{Counts, valueOf, countsOf, isAccepted}
-use Rattle.ledger.specs.Refusals.{check, unless, firstToFail, inNumberOrder, badAskTime, badAsk, changeChecks, askChecks}
+use Rattle.ledger.specs.Refusals.{check, unless, firstToFail, inCheckOrder, badAskTime, badWindow, badAsk, changeChecks, askNumberChecks, askChecks}
 use Rattle.ledger.specs.declared.Answer.{Answer}
 use Rattle.ledger.specs.declared.Answer.the-variants.{Accepted, Listed, Refused}
 use Rattle.ledger.specs.declared.Ask.{Ask}
@@ -26,12 +26,12 @@ use Rattle.ledger.specs.declared.Call.{Call}
 use Rattle.ledger.specs.declared.Call.the-variants as Call
 use Rattle.ledger.specs.declared.Change.{Change}
 use Rattle.ledger.specs.declared.Change.the-variants as Change
-use Rattle.ledger.specs.declared.Refusal.the-variants.{Unsound, WrongLength, BadTime, BadNumber, ListTooShort}
+use Rattle.ledger.specs.declared.Refusal.the-variants.{Unsound, WrongLength, ListTooShort}
 use Rattle.ledger.specs.declared.Verdict.{Verdict}
 use Rattle.ledger.specs.declared.Verdict.the-variants.{Passed, Failed}
 use Rattle.ledger.proofs.MachineSummedLaws.{summed-same, summed-none}
 use Rattle.ledger.proofs.Claims.{refusals-are-plain}
-use Rattle.ledger.proofs.RefusalsLaws.{first-passed, others-passed}
+use Rattle.ledger.proofs.RefusalsLaws.{first-passed, others-passed, passed-before, before-passed, GoodAsk, ask-good, good-passes}
 use Rattle.asking.specs.Asking.{choiceOf, idsNeeded, idsFound, roundsCounted, AskOutcome, askSettled}
 use Rattle.asking.specs.Counted.{roomChecks}
 use Rattle.asking.specs.Claims.{idsInside}
@@ -40,27 +40,27 @@ use Rattle.asking.proofs.CountedLaws.{cells-counted-are}
 use Rattle.asking.proofs.Claims.{list-is-exact}
 use Rattle.engine.specs.Index.{askOut, callOut}
 use Rattle.engine.specs.Checks.{wrongLength, unsound, lentChecks, checksOf}
-use Rattle.engine.proofs.ChecksLaws.{sound-lent, room-left}
+use Rattle.engine.proofs.ChecksLaws.{sound-lent}
 use Rattle.history.specs.Index.{idsWritten}
 use Rattle.history.specs.EveryCall.{EveryCallChecksInOrder, CountsOfAsk, ListIsWritten, heldIn, CountsAreExact, ChoiceRoundsAreMethodTwos, RoundsAreMethodTwos, RefusedAskIsEmpty}
 use Rattle.history.proofs.SoundUseful.{useful-counted}
 
 -- ---- the order of the checks
 
-change-order : (w : Words) (c : Change) (now : ℤ) (isHeld : Bool) (held : ℕ) → inNumberOrder (lentChecks w (changeChecks now c isHeld held)) ≡ true
-unfolding inNumberOrder
+change-order : (w : Words) (c : Change) (now : ℤ) (isHeld : Bool) (held : ℕ) → inCheckOrder (lentChecks w (changeChecks now c isHeld held)) ≡ true
+unfolding inCheckOrder
 change-order w (Change.Add r) now isHeld held = refl
 change-order w (Change.Report r) now isHeld held = refl
 change-order w (Change.Drop id t) now isHeld held = refl
 
-call-order : (w : Words) (call : Call) (room : ℕ) → inNumberOrder (checksOf w call room) ≡ true
-unfolding inNumberOrder
+call-order : (w : Words) (call : Call) (room : ℕ) → inCheckOrder (checksOf w call room) ≡ true
+unfolding inCheckOrder
 call-order w (Call.Clock t) room = refl
 call-order w (Call.Change c) room = change-order w c (timeIn w) _ _
 call-order w (Call.Ask ask) room = refl
 
 pub every-call-checks-in-order : EveryCallChecksInOrder
-unfolding inNumberOrder
+unfolding inCheckOrder
 every-call-checks-in-order w = record { open-order = λ time. refl; call-order = call-order w }
 
 -- ---- an ask by its verdict
@@ -85,12 +85,6 @@ module _ (w : Words) (ask : Ask) (list : List ℕ) where
   abbrev room : ℕ
   room = length list
 
-  abbrev late : Bool
-  late = badAskTime (timeIn w) (ask .query)
-
-  abbrev bad : Bool
-  bad = badAsk ask
-
   abbrev verdict : Verdict
   verdict = firstToFail (checksOf w (Call.Ask ask) room)
 
@@ -109,20 +103,15 @@ module _ (w : Words) (ask : Ask) (list : List ℕ) where
         let asked = askChecks (timeIn w) ask room (idsNeeded w ask) in
         not-false (areSound w) (first-passed (unsound w) Unsound asked (others-passed (wrongLength w) WrongLength (check (unsound w) Unsound ∷ asked) passed))
 
-    good-time : late ≡ false
-    good-time = first-passed late BadTime (check bad BadNumber ∷ roomChecks room (idsNeeded w ask)) after-lent
-
-    good-numbers : bad ≡ false
-    good-numbers =
-        first-passed bad BadNumber (roomChecks room (idsNeeded w ask))
-        (others-passed late BadTime (check bad BadNumber ∷ roomChecks room (idsNeeded w ask)) after-lent)
+    pub good-ask : GoodAsk (timeIn w) ask
+    good-ask = ask-good (timeIn w) ask (before-passed (askNumberChecks (timeIn w) ask) (roomChecks room (idsNeeded w ask)) after-lent)
 
     out-is : askOut w ask list ≡ askSettled Passed w ask list
     unfolding askOut
     out-is = ap (λ (v : Verdict). askSettled v w ask list) passed
 
     exact : (idsFound w ask ≡ idsInside (ask .query) (recordsIn w)) × (idsNeeded w ask ≡ length (idsInside (ask .query) (recordsIn w)))
-    exact = list-is-exact w sound-here ask good-time good-numbers
+    exact = list-is-exact w sound-here ask (good-ask .good-time) (good-ask .good-numbers)
 
     list-written : askOut w ask list .list ≡ idsInside (ask .query) (recordsIn w) ++ drop (length (idsInside (ask .query) (recordsIn w))) list
     list-written = rw out-is (ap (λ (ids : List ℕ). ids ++ drop (length ids) list) (exact .0))
@@ -131,7 +120,7 @@ module _ (w : Words) (ask : Ask) (list : List ℕ) where
     unfolding roundsCounted
     counts-exact =
         let parts = sound-parts (w .store) (w .table) sound-here in
-        let fit = fit-ask (timeIn w) ask good-time good-numbers in
+        let fit = fit-ask (timeIn w) ask (good-ask .good-time) (good-ask .good-numbers) in
         record {
           cells-are = ap (λ (o : AskOutcome). countsOf (o .answer) .cells) out-is ∙ cells-counted-are w ask;
           useful-are = ap (λ (o : AskOutcome). countsOf (o .answer) .useful) out-is ∙ useful-counted w parts ask fit;
@@ -142,11 +131,18 @@ module _ (w : Words) (ask : Ask) (list : List ℕ) where
     value-exact = rw out-is (exact .1)
 
   -- good numbers over sound words: accepted exactly where the list has room
-  accepted-with-room : areSound w ≡ true → late ≡ false → bad ≡ false → isAccepted (askOut w ask list .answer) ≡ not (ltb room (length (idsInside (ask .query) (recordsIn w))))
+  accepted-with-room :
+      areSound w ≡ true
+      → badAskTime (timeIn w) (ask .query) ≡ false
+      → badWindow (ask .query) ≡ false
+      → badAsk ask ≡ false
+      → isAccepted (askOut w ask list .answer) ≡ not (ltb room (length (idsInside (ask .query) (recordsIn w))))
   unfolding askOut
-  accepted-with-room sound time numbers =
+  accepted-with-room sound time window numbers =
+      let checks = askNumberChecks (timeIn w) ask in
+      let passed = good-passes (timeIn w) ask (record { good-time = time; good-window = window; good-numbers = numbers }) in
       ap (λ (v : Verdict). isAccepted (askSettled v w ask list .answer))
-      (sym (room-left (timeIn w) ask room (idsNeeded w ask) time numbers ∙ sound-lent w sound (askChecks (timeIn w) ask room (idsNeeded w ask))))
+      (sym (passed-before checks (roomChecks room (idsNeeded w ask)) passed ∙ sound-lent w sound (askChecks (timeIn w) ask room (idsNeeded w ask))))
       ∙ room-accepts w ask list room (idsNeeded w ask)
       ∙ ap (λ (n : ℕ). not (ltb room n)) (list-is-exact w sound ask time numbers .1)
 

@@ -10,6 +10,7 @@ pub mod UsefulCells
 pub mod SoundUseful
 pub mod Asks
 pub mod EveryCall
+pub mod Windows
 pub mod LastingRows
 pub mod Claims
 pub mod Numbers

@@ -58,7 +58,7 @@ checks-not-lent : (l : Ledger) (call : Call) (room : ℕ) → AllNotLent (L.chec
 unfolding AllNotLent
 checks-not-lent l (Call.Clock t) room = (later-lent 0, tt)
 checks-not-lent l (Call.Change c) room = (later-lent 0, (later-lent 1, held-not-lent c _ _))
-checks-not-lent l (Call.Ask ask) room = (later-lent 0, (later-lent 1, (later-lent 5, tt)))
+checks-not-lent l (Call.Ask ask) room = (later-lent 0, (later-lent 7, (later-lent 1, (later-lent 5, tt))))
 
 accepted-not-lent : (l : Ledger) (call : Call) → NotLent (numberOf (L.ifNoneFails l call))
 accepted-not-lent l (Call.Clock t) = none-lent

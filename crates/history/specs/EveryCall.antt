@@ -16,7 +16,7 @@ use Rattle.records.specs.Order.{phaseOfKey}
 use Rattle.records.specs.Words.{Words, timeIn, recordsIn, areSound}
 use Rattle.records.specs.declared.Record.{Record}
 use Rattle.ledger.specs.Answers.{valueOf, noCounts, countsOf, isAccepted}
-use Rattle.ledger.specs.Refusals.{inNumberOrder, badAskTime, badAsk}
+use Rattle.ledger.specs.Refusals.{inCheckOrder, badAskTime, badWindow, badAsk}
 use Rattle.ledger.specs.Machine.{Held, listedHeld, usefulCells, summed}
 use Rattle.ledger.specs.declared.Answer.{Answer}
 use Rattle.ledger.specs.declared.Ask.{Ask}
@@ -27,11 +27,11 @@ use Rattle.engine.specs.Index.{askOut, callOut}
 use Rattle.engine.specs.Checks.{openChecks, checksOf}
 use Rattle.history.specs.Index.{LentCall, replyTo}
 
--- ---- S15: the checks of each of the calls stand in number order
+-- ---- S15, A3: the checks of each of the calls stand in number order, 10 right after 3
 
 pub record InOrder (w : Words) : Type 0 where
-  pub open-order : (time : ℤ) → inNumberOrder (openChecks w time) ≡ true
-  pub call-order : (call : Call) (room : ℕ) → inNumberOrder (checksOf w call room) ≡ true
+  pub open-order : (time : ℤ) → inCheckOrder (openChecks w time) ≡ true
+  pub call-order : (call : Call) (room : ℕ) → inCheckOrder (checksOf w call room) ≡ true
 
 abbrev pub EveryCallChecksInOrder : Type 0
 EveryCallChecksInOrder = (w : Words) → InOrder w
@@ -47,6 +47,7 @@ module _ (w : Words) (ask : Ask) (list : List ℕ) where
     pub accepted-with-room :
         areSound w ≡ true
         → badAskTime (timeIn w) (ask .query) ≡ false
+        → badWindow (ask .query) ≡ false
         → badAsk ask ≡ false
         → isAccepted answerOfAsk ≡ not (ltb (length list) (length ids))
     pub ids-in-front : isAccepted answerOfAsk ≡ true → askOut w ask list .list ≡ ids ++ drop (length ids) list

@@ -1,5 +1,6 @@
 pub mod Index
 pub mod EveryCall
 pub mod Claims
+pub mod Windows
 pub mod Points
 pub mod Examples

@@ -1,7 +1,8 @@
--- The lesser and the greater of two whole numbers: their parts, and the laws of a semilattice that joining rows rests on.
+-- The lesser and the greater of two whole numbers: their parts, and the laws of a semilattice that joining rows and the smallest around two
+-- ranges rest on.
 -- Assumes nothing.
 use mathlib.Core.Path.{_≡_, refl}
-use mathlib.Core.Bool.{Bool, true, false, cond}
+use mathlib.Core.Bool.{Bool, true, false, cond, _||_}
 use Prim.Native.Nat.{min, max}
 use native.Mathlib.Omega.{arith}
 use lib.IntN.{ℤ}
@@ -71,3 +72,20 @@ le-refl a = omega (arith, signed)
 
 pub le-trans : (a b c : ℤ) → leZ a b ≡ true → leZ b c ≡ true → leZ a c ≡ true
 le-trans a b c h k = omega (arith, signed)
+
+-- the lesser is not above z where one of the two is not, the greater not below z where one of the two is not
+pub min-either : (a b z : ℤ) → leZ (minZ a b) z ≡ leZ a z || leZ b z
+min-either a b z = go (leZ a z) refl (leZ b z) refl
+  where
+    go : (t : Bool) → leZ a z ≡ t → (u : Bool) → leZ b z ≡ u → leZ (minZ a b) z ≡ leZ a z || leZ b z
+    go true e u f = rw e (le-trans (minZ a b) a z (min-below a b .0) e)
+    go false e true f = rw (e, f) (le-trans (minZ a b) b z (min-below a b .1) f)
+    go false e false f = rw (e, f) (omega (arith, signed, min-parts a b, one-part a, one-part b, one-part z))
+
+pub max-either : (a b z : ℤ) → leZ z (maxZ a b) ≡ leZ z a || leZ z b
+max-either a b z = go (leZ z a) refl (leZ z b) refl
+  where
+    go : (t : Bool) → leZ z a ≡ t → (u : Bool) → leZ z b ≡ u → leZ z (maxZ a b) ≡ leZ z a || leZ z b
+    go true e u f = rw e (le-trans z a (maxZ a b) e (max-above a b .0))
+    go false e true f = rw (e, f) (le-trans z b (maxZ a b) f (max-above a b .1))
+    go false e false f = rw (e, f) (omega (arith, signed, max-parts a b, one-part a, one-part b, one-part z))

@@ -1,4 +1,4 @@
--- The claims of specs/Claims.antt, proved: the checks stand in number order, the first to fail is given, and a refusal has neither counts nor,
+-- The claims of specs/Claims.antt, proved: the checks stand in their order, the first to fail is given, and a refusal has neither counts nor,
 -- but for 8, a value.
 -- Assumes nothing.
 use mathlib.Core.Path.{_≡_, refl, sym, ap, _∙_}
@@ -12,12 +12,12 @@ use lib.IntN.{ℤ}
 use borrow.Author.Tests.{ltb-true}
 use Rattle.ints.proofs.Parts.{true-false}
 use Rattle.ints.proofs.Truth.{and-left, and-right}
-use Rattle.ledger.specs.Answers.{refusalNumber, numberOf, valueOf, noCounts, countsOf, isAccepted}
-use Rattle.ledger.specs.Refusals.{Check, unless, firstToFail, inNumberOrder, changeChecks}
+use Rattle.ledger.specs.Answers.{numberOf, valueOf, noCounts, countsOf, isAccepted}
+use Rattle.ledger.specs.Refusals.{Check, unless, firstToFail, placeOf, inCheckOrder, changeChecks}
 use Rattle.ledger.specs.Machine.{Ledger}
 use Rattle.ledger.specs.Calls.{checksOf}
 use Rattle.ledger.proofs.RefusalsLaws.{not-both}
-use Rattle.ledger.specs.Claims.{ChecksStandInOrder, FirstFails, FirstToFailIsGiven, LeastNumberIsGiven, RefusalIsPlain, RefusalsArePlain}
+use Rattle.ledger.specs.Claims.{ChecksStandInOrder, FirstFails, FirstToFailIsGiven, FirstPlaceIsGiven, RefusalIsPlain, RefusalsArePlain}
 use Rattle.ledger.specs.declared.Answer.{Answer}
 use Rattle.ledger.specs.declared.Answer.the-variants.{Accepted, Listed, Refused}
 use Rattle.ledger.specs.declared.Call.{Call}
@@ -27,24 +27,24 @@ use Rattle.ledger.specs.declared.Change.the-variants as Change
 use Rattle.ledger.specs.declared.Refusal.{Refusal}
 use Rattle.ledger.specs.declared.Verdict.{Verdict}
 use Rattle.ledger.specs.declared.Verdict.the-variants.{Passed, Failed}
-use Rattle.ledger.specs.declared.Refusal.the-variants.{WrongLength, Unsound, BadTime, BadNumber, AlreadyHeld, NotHeld, Full, ListTooShort}
+use Rattle.ledger.specs.declared.Refusal.the-variants.{WrongLength, Unsound, BadTime, BadWindow, BadNumber, AlreadyHeld, NotHeld, Full, ListTooShort}
 
--- ---- number order
+-- ---- the order
 
-changes-in-order : (now : ℤ) (c : Change) (isHeld : Bool) (held : ℕ) → inNumberOrder (changeChecks now c isHeld held) ≡ true
-unfolding inNumberOrder
+changes-in-order : (now : ℤ) (c : Change) (isHeld : Bool) (held : ℕ) → inCheckOrder (changeChecks now c isHeld held) ≡ true
+unfolding inCheckOrder
 changes-in-order now (Change.Add r) isHeld held = refl
 changes-in-order now (Change.Report r) isHeld held = refl
 changes-in-order now (Change.Drop id t) isHeld held = refl
 
-calls-in-order : (l : Ledger) (call : Call) (room : ℕ) → inNumberOrder (checksOf l call room) ≡ true
-unfolding inNumberOrder
+calls-in-order : (l : Ledger) (call : Call) (room : ℕ) → inCheckOrder (checksOf l call room) ≡ true
+unfolding inCheckOrder
 calls-in-order l (Call.Clock t) room = refl
 calls-in-order l (Call.Change c) room = changes-in-order (l .now) c _ _
 calls-in-order l (Call.Ask a) room = refl
 
 pub checks-stand-in-order : ChecksStandInOrder
-unfolding inNumberOrder
+unfolding inCheckOrder
 checks-stand-in-order = (λ t. refl, calls-in-order)
 
 -- ---- the first to fail
@@ -95,42 +95,42 @@ first-to-fail-is-given cs = record {
   only-then = first-from cs;
 }
 
--- ---- the least number
+-- ---- the first place
 
-order-rest : (c : Check) (cs : List Check) → inNumberOrder (c ∷ cs) ≡ true → inNumberOrder cs ≡ true
-unfolding inNumberOrder
+order-rest : (c : Check) (cs : List Check) → inCheckOrder (c ∷ cs) ≡ true → inCheckOrder cs ≡ true
+unfolding inCheckOrder
 order-rest c [] h = refl
 order-rest c (d ∷ more) h =
-    and-right (ltb (refusalNumber (c .refusal)) (refusalNumber (d .refusal))) (inNumberOrder (d ∷ more)) h
+    and-right (ltb (placeOf (c .refusal)) (placeOf (d .refusal))) (inCheckOrder (d ∷ more)) h
 
--- the first has the least number
-first-least : (c : Check) (cs : List Check) → inNumberOrder (c ∷ cs) ≡ true → (d : Check) → List·Memᴰ d cs → refusalNumber (c .refusal) ≤ refusalNumber (d .refusal)
-unfolding inNumberOrder
+-- the first has the first place
+first-least : (c : Check) (cs : List Check) → inCheckOrder (c ∷ cs) ≡ true → (d : Check) → List·Memᴰ d cs → placeOf (c .refusal) ≤ placeOf (d .refusal)
+unfolding inCheckOrder
 first-least c [] h d m = absurd (List·Memᴰ·not-nil m)
 first-least c (b ∷ more) h d m =
-    let low = refusalNumber (c .refusal) in
-    let high = refusalNumber (b .refusal) in
-    let less : low < high = ltb-true low high (and-left (ltb low high) (inNumberOrder (b ∷ more)) h) in
+    let low = placeOf (c .refusal) in
+    let high = placeOf (b .refusal) in
+    let less : low < high = ltb-true low high (and-left (ltb low high) (inCheckOrder (b ∷ more)) h) in
     ⊎-elim
-    (λ (same : d ≡ b). let e : refusalNumber (d .refusal) ≡ high = ap (λ (k : Check). refusalNumber (k .refusal)) same in omega arith)
+    (λ (same : d ≡ b). let e : placeOf (d .refusal) ≡ high = ap (λ (k : Check). placeOf (k .refusal)) same in omega arith)
     (λ k. let rest = first-least b more (order-rest c (b ∷ more) h) d k in omega arith)
     (List·Memᴰ·cases-cons m)
 
-pub least-number-is-given : LeastNumberIsGiven
+pub first-place-is-given : FirstPlaceIsGiven
 unfolding firstToFail
-least-number-is-given [] h d m f = absurd (List·Memᴰ·not-nil m)
-least-number-is-given (c ∷ cs) h d m f =
-    go (c .fails) refl (λ k. least-number-is-given cs (order-rest c cs h) d k f)
+first-place-is-given [] h d m f = absurd (List·Memᴰ·not-nil m)
+first-place-is-given (c ∷ cs) h d m f =
+    go (c .fails) refl (λ k. first-place-is-given cs (order-rest c cs h) d k f)
   where
-    Least : Verdict → Type 0
-    Least v = (r : Refusal) × (v ≡ Failed r) × (refusalNumber r ≤ refusalNumber (d .refusal))
+    First : Verdict → Type 0
+    First v = (r : Refusal) × (v ≡ Failed r) × (placeOf r ≤ placeOf (d .refusal))
 
-    go : (t : Bool) → c .fails ≡ t → (List·Memᴰ d cs → Least (firstToFail cs)) → Least (unless t (c .refusal) (firstToFail cs))
+    go : (t : Bool) → c .fails ≡ t → (List·Memᴰ d cs → First (firstToFail cs)) → First (unless t (c .refusal) (firstToFail cs))
     go true e later = (
       c .refusal,
       refl,
       ⊎-elim
-          (λ (same : d ≡ c). let k : refusalNumber (d .refusal) ≡ refusalNumber (c .refusal) = ap (λ (x : Check). refusalNumber (x .refusal)) same in omega arith)
+          (λ (same : d ≡ c). let k : placeOf (d .refusal) ≡ placeOf (c .refusal) = ap (λ (x : Check). placeOf (x .refusal)) same in omega arith)
           (λ k. first-least c cs h d k)
           (List·Memᴰ·cases-cons m),
     )
@@ -152,6 +152,7 @@ refusals-are-plain (Listed ids cells useful rounds) = accepted-plain refl refl
 refusals-are-plain (Refused WrongLength) = refused-plain refl refl (λ n. refl)
 refusals-are-plain (Refused Unsound) = refused-plain refl refl (λ n. refl)
 refusals-are-plain (Refused BadTime) = refused-plain refl refl (λ n. refl)
+refusals-are-plain (Refused BadWindow) = refused-plain refl refl (λ n. refl)
 refusals-are-plain (Refused BadNumber) = refused-plain refl refl (λ n. refl)
 refusals-are-plain (Refused AlreadyHeld) = refused-plain refl refl (λ n. refl)
 refusals-are-plain (Refused NotHeld) = refused-plain refl refl (λ n. refl)

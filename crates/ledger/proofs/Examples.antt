@@ -1,5 +1,5 @@
 -- P1 to P12 hold of the definitions jointly: one tabled fact, which antt computes. The listing of document 01 gives the document's answers, and
--- so do a worked list with each refusal from 3 on, and a full ledger. Each number from 3 to 8 is given by a call.
+-- so do a worked list with each refusal from 3 on, and a full ledger. Each number from 3 to 8, and 10, is given by a call.
 -- Assumes nothing.
 use mathlib.Core.Path.{_≡_, refl}
 use lib.IntN.{pos}
@@ -8,7 +8,7 @@ use Rattle.ints.specs.Lists.{passing, some}
 use Rattle.ints.specs.Examples.{AllAsSaid}
 use Rattle.grid.specs.Places.{columnOf, cellSpan}
 use Rattle.grid.specs.Curve.{numberAt}
-use Rattle.grid.specs.Reports.{inRange, xAt, yAt, inRect, isListed}
+use Rattle.grid.specs.Reports.{inRange, xAt, yAt, inRect, insideAt, isListed}
 use Rattle.grid.specs.Examples as Grid
 use Rattle.rows.specs.Row.{joined, sameRow, isEmpty, boundsOf}
 use Rattle.rows.specs.Phases.{phaseOf, referenceTime, isLive, livePhases}
@@ -24,35 +24,35 @@ use Rattle.ledger.specs.declared.Refusal.the-variants.{Full}
 
 pub all-as-said : AllAsSaid examples
 unfolding examples Grid.examples ledgerP11 ledgerP12 phasesHeld columnsPlaced columnOf cellSpan numberAt minZ maxZ eqZ passing some joined sameRow isEmpty boundsOf expandedRange
-    expandedRect blockOf cellsOfRow cellsOfRows cellsOf movedSpan meets movedCellMeets boundsIn expandedBlock iterated choice inRange xAt yAt inRect isListed phaseOf
+    expandedRect blockOf cellsOfRow cellsOfRows cellsOf movedSpan meets movedCellMeets boundsIn expandedBlock iterated choice inRange xAt yAt inRect insideAt isListed phaseOf
     referenceTime isLive livePhases firstToFail isRectangle steppedHeld newPlacements livePlacements stepped without withReport withoutId speedsPlaced rowsIn
     usefulCells putInOrder idsInOrder summed answerTo changedBy idsOf next replyTo replies after
 all-as-said = refl
 
 pub listing-as-said : replies (opened (pos 0)) listing ≡ listingSays
 unfolding listing listingSays columnOf cellSpan numberAt minZ maxZ eqZ passing some joined sameRow isEmpty boundsOf expandedRange expandedRect blockOf cellsOfRow cellsOfRows cellsOf
-    movedSpan meets movedCellMeets boundsIn expandedBlock iterated choice inRange xAt yAt inRect isListed phaseOf referenceTime isLive livePhases firstToFail isRectangle
+    movedSpan meets movedCellMeets boundsIn expandedBlock iterated choice inRange xAt yAt inRect insideAt isListed phaseOf referenceTime isLive livePhases firstToFail isRectangle
     steppedHeld newPlacements livePlacements stepped without withReport withoutId speedsPlaced rowsIn usefulCells putInOrder idsInOrder summed answerTo
     changedBy idsOf next replyTo replies after
 listing-as-said = refl
 
 pub refused-as-said : answers (opened (pos 3600)) refused ≡ refusedSays
 unfolding answers refused refusedSays columnOf cellSpan numberAt minZ maxZ eqZ passing some joined sameRow isEmpty boundsOf expandedRange expandedRect blockOf cellsOfRow cellsOfRows
-    cellsOf movedSpan meets movedCellMeets boundsIn expandedBlock iterated choice inRange xAt yAt inRect isListed phaseOf referenceTime isLive livePhases firstToFail
+    cellsOf movedSpan meets movedCellMeets boundsIn expandedBlock iterated choice inRange xAt yAt inRect insideAt isListed phaseOf referenceTime isLive livePhases firstToFail
     isRectangle steppedHeld newPlacements livePlacements stepped without withReport withoutId speedsPlaced rowsIn usefulCells putInOrder idsInOrder
     summed answerTo changedBy idsOf next replyTo replies after
 refused-as-said = refl
 
 pub full-as-said : (answerTo (crowd 1024) (add (sent 2 0 0 0 (pos 0) (pos 0))) ≡ Refused Full) × (answerTo (crowd 1023) (add (sent 2 0 0 0 (pos 0) (pos 0))) ≡ Accepted 1024)
 unfolding columnOf cellSpan numberAt minZ maxZ eqZ passing some joined sameRow isEmpty boundsOf expandedRange expandedRect blockOf cellsOfRow cellsOfRows cellsOf movedSpan meets
-    movedCellMeets boundsIn expandedBlock iterated choice inRange xAt yAt inRect isListed phaseOf referenceTime isLive livePhases firstToFail isRectangle steppedHeld
+    movedCellMeets boundsIn expandedBlock iterated choice inRange xAt yAt inRect insideAt isListed phaseOf referenceTime isLive livePhases firstToFail isRectangle steppedHeld
     newPlacements livePlacements stepped without withReport withoutId speedsPlaced rowsIn usefulCells putInOrder idsInOrder summed answerTo changedBy
     idsOf next replyTo replies after
 full-as-said = (refl, refl)
 
 pub numbers-as-said : AllAsSaid numbers
 unfolding numbers ledgerOfOne columnOf cellSpan numberAt minZ maxZ eqZ passing some joined sameRow isEmpty boundsOf expandedRange expandedRect blockOf cellsOfRow cellsOfRows cellsOf
-    movedSpan meets movedCellMeets boundsIn expandedBlock iterated choice inRange xAt yAt inRect isListed phaseOf referenceTime isLive livePhases firstToFail isRectangle
+    movedSpan meets movedCellMeets boundsIn expandedBlock iterated choice inRange xAt yAt inRect insideAt isListed phaseOf referenceTime isLive livePhases firstToFail isRectangle
     steppedHeld newPlacements livePlacements stepped without withReport withoutId speedsPlaced rowsIn usefulCells putInOrder idsInOrder summed answerTo
     changedBy idsOf next replyTo replies after
 numbers-as-said = refl

@@ -4,3 +4,4 @@ pub mod MachineIdsLaws
 pub mod MachineSummedLaws
 pub mod RefusalsLaws
 pub mod Claims
+pub mod WindowExamples

@@ -1,17 +1,18 @@
--- Document 01's number and values for each case of an answer: "What a call gives back when it declines".
+-- The documents' number and values for each case of an answer: document 01, "What a call gives back when it declines", and number 10 of document 02, A3.
 -- Assumes nothing.
 use mathlib.Core.Bool.{Bool, true, false}
 use Prim.Native.Nat.{ℕ}
 use Rattle.ledger.specs.declared.Answer.{Answer}
 use Rattle.ledger.specs.declared.Answer.the-variants.{Accepted, Listed, Refused}
 use Rattle.ledger.specs.declared.Refusal.{Refusal}
-use Rattle.ledger.specs.declared.Refusal.the-variants.{WrongLength, Unsound, BadTime, BadNumber, AlreadyHeld, NotHeld, Full, ListTooShort}
+use Rattle.ledger.specs.declared.Refusal.the-variants.{WrongLength, Unsound, BadTime, BadWindow, BadNumber, AlreadyHeld, NotHeld, Full, ListTooShort}
 
 -- the number of a refusal
 abbrev pub refusalNumber : Refusal → ℕ
 refusalNumber WrongLength = 1
 refusalNumber Unsound = 2
 refusalNumber BadTime = 3
+refusalNumber BadWindow = 10
 refusalNumber BadNumber = 4
 refusalNumber AlreadyHeld = 5
 refusalNumber NotHeld = 6
@@ -23,6 +24,7 @@ abbrev pub refusalValue : Refusal → ℕ
 refusalValue WrongLength = 0
 refusalValue Unsound = 0
 refusalValue BadTime = 0
+refusalValue BadWindow = 0
 refusalValue BadNumber = 0
 refusalValue AlreadyHeld = 0
 refusalValue NotHeld = 0

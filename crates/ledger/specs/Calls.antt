@@ -7,6 +7,7 @@ use Prim.Native.Nat.{ℕ}
 use lib.IntN.{ℤ}
 use lib.ListN.{length}
 use Rattle.grid.specs.Reports.{rectOf}
+use Rattle.grid.specs.declared.When.the-variants.{At, During}
 use Rattle.ledger.specs.Answers.{isAccepted}
 use Rattle.ledger.specs.Refusals.{Check, check, firstToFail, badTime, clockChecks, timeOf, idOf, changeChecks, askChecks}
 use Rattle.ledger.specs.Machine.{Ledger, stepped, isHeld, changed, idsListed, cellsRead, usefulRead, roundsTaken}
@@ -19,10 +20,15 @@ use Rattle.ledger.specs.declared.Refusal.the-variants.{BadTime}
 use Rattle.ledger.specs.declared.Verdict.{Verdict}
 use Rattle.ledger.specs.declared.Verdict.the-variants.{Passed, Failed}
 
--- the ask of a call's six numbers: the method, the asked time, the low corner, the high one
+-- the timeslice ask of a call's six numbers: the method, the asked time, the low corner, the high one
 abbrev pub askOf : ℤ → ℤ → ℤ → ℤ → ℤ → ℤ → Ask
 askOf method time lowX lowY highX highY =
-    record { method = method; query = record { rect = rectOf lowX lowY highX highY; time = time } }
+    record { method = method; query = record { rect = rectOf lowX lowY highX highY; when = At time } }
+
+-- the window ask of a call's seven numbers: the method, the first time, the last, the low corner, the high one
+abbrev pub windowOf : ℤ → ℤ → ℤ → ℤ → ℤ → ℤ → ℤ → Ask
+windowOf method first last lowX lowY highX highY =
+    record { method = method; query = record { rect = rectOf lowX lowY highX highY; when = During first last } }
 
 -- what the ledger is fed: a call, and the length of the answer list that it is lent, which matters to an ask alone
 pub record Fed : Type 0 where
@@ -39,7 +45,7 @@ abbrev pub answerBy : Verdict → Answer → Answer
 answerBy (Failed r) accepted = Refused r
 answerBy Passed accepted = accepted
 
--- ---- the checks of each call, in number order, what it leaves where none fails, and its answer then
+-- ---- the checks of each call, in their order, what it leaves where none fails, and its answer then
 
 abbrev pub openChecks : ℤ → List Check
 openChecks t = check (badTime t) BadTime ∷ []

@@ -1,4 +1,5 @@
--- What is claimed of refusals: document 01, "What a call gives back when it declines", its first two sentences and the rule on values.
+-- What is claimed of refusals: document 01, "What a call gives back when it declines", its first two sentences, with 10 right after 3
+-- (document 02, A3), and the rule on values.
 -- Assumes nothing.
 use mathlib.Core.Path.{_≡_}
 use mathlib.Core.Bool.{true, false}
@@ -6,8 +7,8 @@ use mathlib.Core.List.{List, _∷_, _++_, List·Memᴰ}
 use Prim.Native.Nat.{ℕ, _≤_}
 use lib.Dec.{eqb}
 use lib.IntN.{ℤ}
-use Rattle.ledger.specs.Answers.{refusalNumber, numberOf, valueOf, noCounts, countsOf, isAccepted}
-use Rattle.ledger.specs.Refusals.{Check, firstToFail, inNumberOrder}
+use Rattle.ledger.specs.Answers.{numberOf, valueOf, noCounts, countsOf, isAccepted}
+use Rattle.ledger.specs.Refusals.{Check, firstToFail, placeOf, inCheckOrder}
 use Rattle.ledger.specs.Machine.{Ledger}
 use Rattle.ledger.specs.Calls.{openChecks, checksOf}
 use Rattle.ledger.specs.declared.Answer.{Answer}
@@ -15,11 +16,11 @@ use Rattle.ledger.specs.declared.Call.{Call}
 use Rattle.ledger.specs.declared.Refusal.{Refusal}
 use Rattle.ledger.specs.declared.Verdict.the-variants.{Failed}
 
--- checks run in number order (S15): those of open and of each later call stand in it
+-- checks run in number order, 10 right after 3 (S15, A3): those of open and of each later call stand in it
 abbrev pub ChecksStandInOrder : Type 0
 ChecksStandInOrder =
-    ((t : ℤ) → inNumberOrder (openChecks t) ≡ true)
-    × ((l : Ledger) (call : Call) (room : ℕ) → inNumberOrder (checksOf l call room) ≡ true)
+    ((t : ℤ) → inCheckOrder (openChecks t) ≡ true)
+    × ((l : Ledger) (call : Call) (room : ℕ) → inCheckOrder (checksOf l call room) ≡ true)
 
 -- a check that fails, and each before it passes
 pub record FirstFails (c : Check) (cs : List Check) : Type 0 where
@@ -37,15 +38,15 @@ pub record GivesTheFirst (cs : List Check) : Type 0 where
 abbrev pub FirstToFailIsGiven : Type 0
 FirstToFailIsGiven = (cs : List Check) → GivesTheFirst cs
 
--- of checks in number order that fail, the one of least number is given
-abbrev pub LeastNumberIsGiven : Type 0
-LeastNumberIsGiven =
+-- of checks in order that fail, the one of the first place is given: the least number, but that 10 stands right after 3
+abbrev pub FirstPlaceIsGiven : Type 0
+FirstPlaceIsGiven =
     (cs : List Check)
-    → inNumberOrder cs ≡ true
+    → inCheckOrder cs ≡ true
     → (c : Check)
     → List·Memᴰ c cs
     → c .fails ≡ true
-    → (r : Refusal) × (firstToFail cs ≡ Failed r) × (refusalNumber r ≤ refusalNumber (c .refusal))
+    → (r : Refusal) × (firstToFail cs ≡ Failed r) × (placeOf r ≤ placeOf (c .refusal))
 
 -- number 0 is that of an accepted call; a refused one has no counts, and every number but 8 returns 0 (S2)
 pub record RefusalIsPlain (a : Answer) : Type 0 where

@@ -1,5 +1,5 @@
 -- The P cases of document 01, all twelve, its listing, a worked list with each refusal from 3 on, and each number from 3 on: what the
--- definitions give, and what the document says.
+-- definitions give, and what the documents say.
 -- Assumes nothing.
 use mathlib.Core.List.{List, [], _∷_, _++_}
 use Prim.Native.Nat.{ℕ}
@@ -9,6 +9,7 @@ use Rattle.ints.specs.Examples.{Example}
 use Rattle.grid.specs.Examples as Grid
 use Rattle.grid.specs.declared.Rect.{Rect}
 use Rattle.grid.specs.declared.Report.{Report}
+use Rattle.grid.specs.declared.When.the-variants.{At, During}
 use Rattle.ledger.specs.Answers.{numberOf, countsOf}
 use Rattle.ledger.specs.Machine.{Ledger, Held, Placement, opened}
 use Rattle.ledger.specs.Calls.{Fed, Reply, after, answerTo}
@@ -44,7 +45,11 @@ drop id t = change (Change.Drop id t)
 
 abbrev pub ask : ℤ → ℤ → Rect → ℕ → Fed
 ask method time rect room =
-    record { call = Call.Ask (record { method = method; query = record { rect = rect; time = time } }); room = room }
+    record { call = Call.Ask (record { method = method; query = record { rect = rect; when = At time } }); room = room }
+
+abbrev pub window : ℤ → ℤ → ℤ → Rect → ℕ → Fed
+window method first last rect room =
+    record { call = Call.Ask (record { method = method; query = record { rect = rect; when = During first last } }); room = room }
 
 -- P11: open at 0, three floats, and an ask for 3,600
 unfoldable pub ledgerP11 : Ledger
@@ -184,4 +189,5 @@ numbers =
     ∷ record { given = numberOf (answerTo ledgerOfOne (drop (pos 6) (pos 3600))); said = 6 }
     ∷ record { given = numberOf (answerTo (crowd 1024) (add (sent 2 0 0 0 (pos 0) (pos 0)))); said = 7 }
     ∷ record { given = numberOf (answerTo ledgerOfOne (ask (pos 3) (pos 3600) (rectangle 0 0 2000 2000) 0)); said = 8 }
+    ∷ record { given = numberOf (answerTo ledgerOfOne (window (pos 3) (pos 3600) (pos 3599) (rectangle 0 0 2000 2000) 1)); said = 10 }
     ∷ []

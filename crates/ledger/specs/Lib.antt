@@ -4,3 +4,4 @@ pub mod Machine
 pub mod Calls
 pub mod Claims
 pub mod Examples
+pub mod WindowExamples

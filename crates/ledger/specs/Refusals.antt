@@ -1,24 +1,26 @@
--- When a call is declined: document 01's table from row 3 on, and the rule that the checks stand in number order and the first to fail is given.
+-- When a call is declined: document 01's table from row 3 on, document 02's number 10 (A3), and the rule that the checks stand in number order, with
+-- 10 right after 3, and the first to fail is given.
 -- The index and the ledger have these lists of checks in common; what is held, and the ids that an ask needs, each says by itself.
 -- Assumes nothing.
 use mathlib.Core.Bool.{Bool, true, false, _&&_, _||_, not}
-use mathlib.Core.List.{List, [], _∷_}
+use mathlib.Core.List.{List, [], _∷_, _++_}
 use Prim.Native.Nat.{ℕ}
 use lib.Dec.{leb, ltb}
 use lib.IntN.{ℤ, pos, _+ℤ_, _-ℤ_}
 use lib.Signed.{leZ, ltZ}
 use Rattle.ints.specs.Whole.{between}
 use Rattle.grid.specs.Reports.{isTime, isId, isPosition, inRange}
-use Rattle.grid.specs.Units.{capacity, askBefore, askAfter}
+use Rattle.grid.specs.Units.{capacity, askBefore, askAfter, longestWindow}
 use Rattle.grid.specs.declared.Query.{Query}
 use Rattle.grid.specs.declared.Rect.{Rect}
 use Rattle.grid.specs.declared.Report.{Report}
-use Rattle.ledger.specs.Answers.{refusalNumber}
+use Rattle.grid.specs.declared.When.{When}
+use Rattle.grid.specs.declared.When.the-variants.{At, During}
 use Rattle.ledger.specs.declared.Change.{Change}
 use Rattle.ledger.specs.declared.Change.the-variants as Change
 use Rattle.ledger.specs.declared.Ask.{Ask}
 use Rattle.ledger.specs.declared.Refusal.{Refusal}
-use Rattle.ledger.specs.declared.Refusal.the-variants.{BadTime, BadNumber, AlreadyHeld, NotHeld, Full, ListTooShort}
+use Rattle.ledger.specs.declared.Refusal.the-variants.{WrongLength, Unsound, BadTime, BadWindow, BadNumber, AlreadyHeld, NotHeld, Full, ListTooShort}
 use Rattle.ledger.specs.declared.Verdict.{Verdict}
 use Rattle.ledger.specs.declared.Verdict.the-variants.{Passed, Failed}
 
@@ -39,11 +41,23 @@ unfoldable pub firstToFail : List Check → Verdict
 firstToFail [] = Passed
 firstToFail (c ∷ cs) = unless (c .fails) (c .refusal) (firstToFail cs)
 
--- each check's number is below that of the check after it
-unfoldable pub inNumberOrder : List Check → Bool
-inNumberOrder [] = true
-inNumberOrder (c ∷ []) = true
-inNumberOrder (c ∷ d ∷ more) = ltb (refusalNumber (c .refusal)) (refusalNumber (d .refusal)) && inNumberOrder (d ∷ more)
+-- where the check of each refusal stands: 1, 2, 3, 10, 4, 5, 6, 7, 8
+abbrev pub placeOf : Refusal → ℕ
+placeOf WrongLength = 1
+placeOf Unsound = 2
+placeOf BadTime = 3
+placeOf BadWindow = 4
+placeOf BadNumber = 5
+placeOf AlreadyHeld = 6
+placeOf NotHeld = 7
+placeOf Full = 8
+placeOf (ListTooShort needed) = 9
+
+-- each check's place is before that of the check after it
+unfoldable pub inCheckOrder : List Check → Bool
+inCheckOrder [] = true
+inCheckOrder (c ∷ []) = true
+inCheckOrder (c ∷ d ∷ more) = ltb (placeOf (c .refusal)) (placeOf (d .refusal)) && inCheckOrder (d ∷ more)
 
 -- 3, for open: time outside its range
 abbrev pub badTime : ℤ → Bool
@@ -53,9 +67,24 @@ badTime t = not (isTime t)
 abbrev pub badStepTime : ℤ → ℤ → Bool
 badStepTime now t = not (isTime t) || ltZ t now
 
--- 3, for ask: or outside now - 3,600 to now + 7,200
+-- 3, for ask: a time outside its range, or outside now - 3,600 to now + 7,200; of a window, either time
+abbrev pub outOfAskRange : ℤ → ℤ → Bool
+outOfAskRange now t = not (isTime t) || not (between (now -ℤ pos askBefore) (now +ℤ pos askAfter) t)
+
+abbrev pub badWhen : ℤ → When → Bool
+badWhen now (At t) = outOfAskRange now t
+badWhen now (During first last) = outOfAskRange now first || outOfAskRange now last
+
 abbrev pub badAskTime : ℤ → Query → Bool
-badAskTime now query = not (isTime (query .time)) || not (between (now -ℤ pos askBefore) (now +ℤ pos askAfter) (query .time))
+badAskTime now query = badWhen now (query .when)
+
+-- 10, for a window: its last time before its first, or more than 3,600 after it
+abbrev pub badSpan : When → Bool
+badSpan (At t) = false
+badSpan (During first last) = not (between first (first +ℤ pos longestWindow) last)
+
+abbrev pub badWindow : Query → Bool
+badWindow query = badSpan (query .when)
 
 -- 4, for add and report: id, position or speed outside its range
 abbrev pub badReport : Report → Bool
@@ -75,7 +104,7 @@ isRectangle q =
 abbrev pub badAsk : Ask → Bool
 badAsk a = not (between (pos 0) (pos 3) (a .method) && isRectangle (a .query .rect))
 
--- ---- the checks of each call, in number order
+-- ---- the checks of each call, in their order
 
 abbrev pub clockChecks : ℤ → ℤ → List Check
 clockChecks now t = check (badStepTime now t) BadTime ∷ []
@@ -106,10 +135,11 @@ abbrev pub changeChecks : ℤ → Change → Bool → ℕ → List Check
 changeChecks now c isHeld held =
     check (badStepTime now (timeOf c)) BadTime ∷ check (badNumbers c) BadNumber ∷ heldChecks c isHeld held
 
+-- those of an ask that go by its numbers
+abbrev pub askNumberChecks : ℤ → Ask → List Check
+askNumberChecks now a =
+    check (badAskTime now (a .query)) BadTime ∷ check (badWindow (a .query)) BadWindow ∷ check (badAsk a) BadNumber ∷ []
+
 -- an answer list with so much room, and the ids needed
 abbrev pub askChecks : ℤ → Ask → ℕ → ℕ → List Check
-askChecks now a room needed =
-    check (badAskTime now (a .query)) BadTime
-    ∷ check (badAsk a) BadNumber
-    ∷ check (ltb room needed) (ListTooShort needed)
-    ∷ []
+askChecks now a room needed = askNumberChecks now a ++ check (ltb room needed) (ListTooShort needed) ∷ []

@@ -2,10 +2,11 @@
 ghost use mathlib.Core.Path.{_≡_};
 ghost use Rattle.ledger.specs.Answers.{refusalNumber, refusalValue};
 ghost use Rattle.ledger.specs.Refusals.{timeOf, idOf};
-ghost use Rattle.ledger.specs.Calls.{askOf};
+ghost use Rattle.ledger.specs.Calls.{askOf, windowOf};
 use grid::Query;
 use grid::Rect;
 use grid::Report;
+use grid::When;
 
 // A change of the floats held.
 pub enum Change {
@@ -48,7 +49,7 @@ pub struct Ask {
 }
 
 impl Ask {
-    // That of a call's six numbers.
+    // The timeslice ask of a call's six numbers.
     pub fn of(method: i32, time: i32, low_x: i32, low_y: i32, high_x: i32, high_y: i32) -> Ask
         ensures { λ r. ⌜ r ≡ askOf method time «low_x» «low_y» «high_x» «high_y» ⌝ }
     {
@@ -56,7 +57,28 @@ impl Ask {
             method: method,
             query: Query {
                 rect: Rect::of(low_x, low_y, high_x, high_y),
-                time: time,
+                when: When::At(time),
+            },
+        }
+    }
+
+    // The window ask of a call's seven numbers.
+    pub fn window(
+        method: i32,
+        first: i32,
+        last: i32,
+        low_x: i32,
+        low_y: i32,
+        high_x: i32,
+        high_y: i32,
+    ) -> Ask
+        ensures { λ r. ⌜ r ≡ windowOf method first last «low_x» «low_y» «high_x» «high_y» ⌝ }
+    {
+        Ask {
+            method: method,
+            query: Query {
+                rect: Rect::of(low_x, low_y, high_x, high_y),
+                when: When::During(first, last),
             },
         }
     }
@@ -78,7 +100,7 @@ pub enum Answer {
     Refused(Refusal),
 }
 
-// Why a call is declined, by document 01's numbers.
+// Why a call is declined, by the documents' numbers, in the order of the checks: 10 stands right after 3.
 pub enum Refusal {
     // 1: store not 7,175 words or table not 12,288 numbers.
     WrongLength,
@@ -86,6 +108,8 @@ pub enum Refusal {
     Unsound,
     // 3: time outside its range, below now, or too far from now for an ask.
     BadTime,
+    // 10: window ask, last time before the first, or more than 3,600 after it.
+    BadWindow,
     // 4: id, position, speed or method outside its range, or a bad rectangle.
     BadNumber,
     // 5: add, id already held.
@@ -112,6 +136,7 @@ impl Refusal {
             Refusal::WrongLength => 1,
             Refusal::Unsound => 2,
             Refusal::BadTime => 3,
+            Refusal::BadWindow => 10,
             Refusal::BadNumber => 4,
             Refusal::AlreadyHeld => 5,
             Refusal::NotHeld => 6,
@@ -129,6 +154,7 @@ impl Refusal {
             Refusal::WrongLength => 0,
             Refusal::Unsound => 0,
             Refusal::BadTime => 0,
+            Refusal::BadWindow => 0,
             Refusal::BadNumber => 0,
             Refusal::AlreadyHeld => 0,
             Refusal::NotHeld => 0,

@@ -14,6 +14,9 @@ use lib.IntN.{ℤ}
 use lib.ListN.{length, getD}
 use lib.Seq.{take-length}
 use Rattle.ints.proofs.Truth.{and-true, and-left, and-right}
+use Rattle.grid.specs.declared.Rect.{Rect}
+use Rattle.grid.specs.declared.When.{When}
+use Rattle.grid.specs.declared.When.the-variants.{At, During}
 use Rattle.ledger.specs.declared.Change.the-variants as Change
 use Rattle.ledger.specs.declared.Call.the-variants as Call
 use Rattle.lines.specs.declared.Line.{Line}
@@ -40,6 +43,14 @@ none-read : readLine [] ≡ Line.NoCall
 unfolding readLine callOf countOf numbersOf
 none-read = refl
 
+abbrev askLine : ℤ → Rect → When → Line
+askLine method rect when = Line.Call (Call.Ask (record { method = method; query = record { rect = rect; when = when } }))
+
+read-asked : (method : ℤ) (rect : Rect) (when : When) → areWritable (numbersOf (askLine method rect when)) ≡ true → readLine (callLine (askLine method rect when)) ≡ askLine method rect when
+unfolding letterOf numbersOf callLine callOf countOf
+read-asked method rect (At t) h = line-written (code "Q") _ h refl
+read-asked method rect (During first last) h = line-written (code "W") _ h refl
+
 pub read-written : ReadWritten
 unfolding letterOf numbersOf changeNumbers callLine callOf countOf
 read-written (Line.Open t) h = line-written (code "O") _ h refl
@@ -47,7 +58,7 @@ read-written (Line.Call (Call.Clock t)) h = line-written (code "C") _ h refl
 read-written (Line.Call (Call.Change (Change.Add r))) h = line-written (code "A") _ h refl
 read-written (Line.Call (Call.Change (Change.Report r))) h = line-written (code "U") _ h refl
 read-written (Line.Call (Call.Change (Change.Drop id t))) h = line-written (code "D") _ h refl
-read-written (Line.Call (Call.Ask ask)) h = line-written (code "Q") _ h refl
+read-written (Line.Call (Call.Ask ask)) h = read-asked (ask .method) (ask .query .rect) (ask .query .when) h
 read-written Line.NoCall h = none-read
 
 -- ---- a line that is read is written by its call
@@ -72,7 +83,8 @@ module _ (line : List ℕ) where
       (λ a. if-letter Says x (code "U") (λ _. refl)
       (λ u. if-letter Says x (code "D") (λ _. refl)
       (λ d. if-letter Says x (code "Q") (λ _. refl)
-      (λ q n. absurd (n (simp (ne-eqb _ _ o, ne-eqb _ _ c, ne-eqb _ _ a, ne-eqb _ _ u, ne-eqb _ _ d, ne-eqb _ _ q)))))))))
+      (λ q. if-letter Says x (code "W") (λ _. refl)
+      (λ w n. absurd (n (simp (ne-eqb _ _ o, ne-eqb _ _ c, ne-eqb _ _ a, ne-eqb _ _ u, ne-eqb _ _ d, ne-eqb _ _ q, ne-eqb _ _ w))))))))))
 
   abbrev letter : ℕ
   letter = getD line 0 0

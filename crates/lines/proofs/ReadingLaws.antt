@@ -13,15 +13,22 @@ use lib.IntN.{ℤ, pos}
 use lib.ListN.{length, getD, set, replicate, length-append}
 use lib.Seq.{set-at}
 use Rattle.ints.proofs.Parts.{true-false}
+use Rattle.grid.specs.declared.Rect.{Rect}
+use Rattle.grid.specs.declared.When.{When}
+use Rattle.grid.specs.declared.When.the-variants.{At, During}
 use Rattle.ledger.specs.declared.Change.the-variants as Change
 use Rattle.ledger.specs.declared.Call.the-variants as Call
 use Rattle.lines.specs.declared.Line.{Line}
 use Rattle.lines.specs.declared.Line.the-variants as Line
 use Rattle.fields.specs.declared.reading.Field.{Field}
 use Rattle.lines.specs.declared.reading.Numbers.{Numbers}
-use Rattle.lines.specs.Lines.{lineLength, mostNumbers, changeNumbers, numbersOf}
+use Rattle.lines.specs.Lines.{lineLength, mostNumbers, changeNumbers, rectNumbers, whenNumbers, numbersOf}
 use Rattle.fields.specs.Numbers.{nth}
 use Rattle.lines.specs.Reading.{nthField, numbersIn, areNumbers, callOf, countOf, readLine, Reads}
+
+few-asked : (method : ℤ) (when : When) (rect : Rect) → length (method ∷ whenNumbers when ++ rectNumbers rect) ≤ mostNumbers
+few-asked method (At t) rect = lit≤ tt
+few-asked method (During first last) rect = lit≤ tt
 
 few-numbers : (line : Line) → length (numbersOf line) ≤ mostNumbers
 unfolding numbersOf changeNumbers
@@ -30,7 +37,7 @@ few-numbers (Line.Call (Call.Clock t)) = lit≤ tt
 few-numbers (Line.Call (Call.Change (Change.Add r))) = lit≤ tt
 few-numbers (Line.Call (Call.Change (Change.Report r))) = lit≤ tt
 few-numbers (Line.Call (Call.Change (Change.Drop id t))) = lit≤ tt
-few-numbers (Line.Call (Call.Ask ask)) = lit≤ tt
+few-numbers (Line.Call (Call.Ask ask)) = few-asked (ask .method) (ask .query .when) (ask .query .rect)
 few-numbers Line.NoCall = lit≤ tt
 
 pub few-follow : (letter : ℕ) → countOf letter ≤ mostNumbers

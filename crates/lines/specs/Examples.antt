@@ -1,4 +1,4 @@
--- The listing of document 01, its call lines and what they say; and lines that are no call.
+-- The listing of document 01 and a window ask, the call lines and what they say; and lines that are no call.
 -- Assumes nothing.
 use mathlib.Core.List.{List, [], _∷_}
 use Prim.Native.Nat.{ℕ}
@@ -6,6 +6,7 @@ use Prim.Native.Char.{code}
 use Prim.Native.String.{String, [] as []ᵀ, _∷_ as _∷ᵀ_}
 use lib.IntN.{pos, negsuc}
 use Rattle.grid.specs.declared.Rect.{Rect}
+use Rattle.grid.specs.declared.When.the-variants.{At, During}
 use Rattle.ledger.specs.Examples.{sent, rectangle}
 use Rattle.ledger.specs.declared.Change.{Change}
 use Rattle.ledger.specs.declared.Change.the-variants.{Add, Drop}
@@ -27,7 +28,11 @@ abbrev change : Change → Line
 change c = Line.Call (Call.Change c)
 
 abbrev ask : ℕ → ℕ → Rect → Line
-ask method time rect = Line.Call (Call.Ask (record { method = pos method; query = record { rect = rect; time = pos time } }))
+ask method time rect = Line.Call (Call.Ask (record { method = pos method; query = record { rect = rect; when = At (pos time) } }))
+
+abbrev window : ℕ → ℕ → ℕ → Rect → Line
+window method first last rect =
+    Line.Call (Call.Ask (record { method = pos method; query = record { rect = rect; when = During (pos first) (pos last) } }))
 
 unfoldable pub listing : List Said
 listing =
@@ -52,6 +57,15 @@ listing =
     ∷ record { line = "D         7        20"; call = change (Drop (pos 7) (pos 20)) }
     ∷ []
 
+-- a window ask
+unfoldable pub windows : List Said
+windows =
+    record {
+      line = "W         3         0      3600    400000         0    500000    200000";
+      call = window 3 0 3600 (rectangle 400000 0 500000 200000);
+    }
+    ∷ []
+
 -- the least and the greatest number
 unfoldable pub limits : List Said
 limits =
@@ -73,6 +87,9 @@ damaged =
     ∷ "O         0\r"
     ∷ "D         7"
     ∷ "D         7        10        10"
+    ∷ "W         3         0    400000         0    500000    200000"
+    ∷ "Q         3         0      3600    400000         0    500000    200000"
+    ∷ "w         3         0      3600    400000         0    500000    200000"
     ∷ "O        +5"
     ∷ "O        -0"
     ∷ "O       007"

@@ -1,4 +1,4 @@
--- How a call is written as a line: document 01, "Lines". A byte is a number, and a line here has no newline.
+-- How a call is written as a line: document 01, "Lines", and document 02, A3, for the letter W. A byte is a number, and a line here has no newline.
 -- Assumes nothing.
 use mathlib.Core.Path.{_≡_}
 use mathlib.Core.Bool.{true}
@@ -9,6 +9,8 @@ use lib.IntN.{ℤ}
 use lib.ListN.{length, drop}
 use Rattle.grid.specs.declared.Rect.{Rect}
 use Rattle.grid.specs.declared.Report.{Report}
+use Rattle.grid.specs.declared.When.{When}
+use Rattle.grid.specs.declared.When.the-variants.{At, During}
 use Rattle.ledger.specs.declared.Ask.{Ask}
 use Rattle.ledger.specs.declared.Change.{Change}
 use Rattle.ledger.specs.declared.Change.the-variants as Change
@@ -34,6 +36,11 @@ lineLength k = 1 + width * k
 abbrev pub mostNumbers : ℕ
 mostNumbers = 8
 
+-- an ask's letter goes by what it asks for: one time, or a window
+abbrev pub whenLetter : When → ℕ
+whenLetter (At t) = code "Q"
+whenLetter (During first last) = code "W"
+
 -- the letter of a line and of its answer
 unfoldable pub letterOf : Line → ℕ
 letterOf (Line.Open t) = code "O"
@@ -41,7 +48,7 @@ letterOf (Line.Call (Call.Clock t)) = code "C"
 letterOf (Line.Call (Call.Change (Change.Add r))) = code "A"
 letterOf (Line.Call (Call.Change (Change.Report r))) = code "U"
 letterOf (Line.Call (Call.Change (Change.Drop id t))) = code "D"
-letterOf (Line.Call (Call.Ask ask)) = code "Q"
+letterOf (Line.Call (Call.Ask ask)) = whenLetter (ask .query .when)
 letterOf Line.NoCall = code "?"
 
 -- a call's numbers, in the order in which its line has them
@@ -56,8 +63,12 @@ changeNumbers (Change.Drop id t) = id ∷ t ∷ []
 abbrev pub rectNumbers : Rect → List ℤ
 rectNumbers q = q .x .low ∷ q .y .low ∷ q .x .high ∷ q .y .high ∷ []
 
+abbrev pub whenNumbers : When → List ℤ
+whenNumbers (At t) = t ∷ []
+whenNumbers (During first last) = first ∷ last ∷ []
+
 abbrev pub askNumbers : Ask → List ℤ
-askNumbers ask = ask .method ∷ ask .query .time ∷ rectNumbers (ask .query .rect)
+askNumbers ask = ask .method ∷ whenNumbers (ask .query .when) ++ rectNumbers (ask .query .rect)
 
 unfoldable pub numbersOf : Line → List ℤ
 numbersOf (Line.Open t) = t ∷ []

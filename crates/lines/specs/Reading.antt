@@ -10,7 +10,7 @@ use lib.IntN.{ℤ, pos}
 use lib.ListN.{length, getD, replicate}
 use Rattle.grid.specs.Reports.{reportOf}
 use Rattle.grid.specs.declared.Report.{Report}
-use Rattle.ledger.specs.Calls.{askOf}
+use Rattle.ledger.specs.Calls.{askOf, windowOf}
 use Rattle.ledger.specs.declared.Ask.{Ask}
 use Rattle.ledger.specs.declared.Change.the-variants as Change
 use Rattle.ledger.specs.declared.Call.the-variants as Call
@@ -39,12 +39,15 @@ areNumbers line (suc k) = areNumbers line k && nthField line k .good
 abbrev pub hasNumbers : List ℕ → ℕ → Bool
 hasNumbers line k = eqb (length line) (lineLength k) && areNumbers line k
 
--- the report and the ask of a line's numbers
+-- the report, the ask and the window ask of a line's numbers
 abbrev pub reportIn : List ℤ → Report
 reportIn ns = reportOf (nth ns 0) (nth ns 1) (nth ns 2) (nth ns 3) (nth ns 4) (nth ns 5)
 
 abbrev pub askIn : List ℤ → Ask
 askIn ns = askOf (nth ns 0) (nth ns 1) (nth ns 2) (nth ns 3) (nth ns 4) (nth ns 5)
+
+abbrev pub windowIn : List ℤ → Ask
+windowIn ns = windowOf (nth ns 0) (nth ns 1) (nth ns 2) (nth ns 3) (nth ns 4) (nth ns 5) (nth ns 6)
 
 -- the call of a letter, whose numbers are 0 where none are left
 unfoldable pub callOf : ℕ → List ℤ → Line
@@ -54,7 +57,8 @@ callOf letter ns =
     (cond (eqb letter (code "A")) (Line.Call (Call.Change (Change.Add (reportIn ns))))
     (cond (eqb letter (code "U")) (Line.Call (Call.Change (Change.Report (reportIn ns))))
     (cond (eqb letter (code "D")) (Line.Call (Call.Change (Change.Drop (nth ns 0) (nth ns 1))))
-    (cond (eqb letter (code "Q")) (Line.Call (Call.Ask (askIn ns))) Line.NoCall)))))
+    (cond (eqb letter (code "Q")) (Line.Call (Call.Ask (askIn ns)))
+    (cond (eqb letter (code "W")) (Line.Call (Call.Ask (windowIn ns))) Line.NoCall))))))
 
 -- how many numbers follow a letter: as many as its call has
 unfoldable pub countOf : ℕ → ℕ

@@ -3,7 +3,7 @@ ghost use mathlib.Core.Path.{_≡_};
 ghost use mathlib.Core.Bool.{true, false};
 ghost use Prim.Native.Nat.{_+_, _<_, _≤_};
 ghost use Rattle.lines.specs.Lines.{mostNumbers};
-ghost use Rattle.lines.specs.Reading.{Reads, reportIn, askIn, callOf, countOf, readLine};
+ghost use Rattle.lines.specs.Reading.{Reads, reportIn, askIn, windowIn, callOf, countOf, readLine};
 use crate::Line;
 use crate::MOST_NUMBERS;
 use fields::WIDTH;
@@ -53,6 +53,7 @@ fn count_of(letter: u8) -> usize
         b'U' => 6,
         b'D' => 2,
         b'Q' => 6,
+        b'W' => 7,
         _ => 0,
     }
 }
@@ -76,6 +77,12 @@ fn ask_of(n: &[i32; MOST_NUMBERS]) -> Ask
     Ask::of(n[0], n[1], n[2], n[3], n[4], n[5])
 }
 
+fn window_of(n: &[i32; MOST_NUMBERS]) -> Ask
+    ensures { λ r. ⌜ r ≡ windowIn (now (n .entry)) ⌝ }
+{
+    Ask::window(n[0], n[1], n[2], n[3], n[4], n[5], n[6])
+}
+
 fn call_of(letter: u8, n: &[i32; MOST_NUMBERS]) -> Line
     ensures { λ r. ⌜ r ≡ callOf letter (now (n .entry)) ⌝ }
 {
@@ -86,6 +93,7 @@ fn call_of(letter: u8, n: &[i32; MOST_NUMBERS]) -> Line
         b'U' => Line::Call(Call::Change(Change::Report(report_of(n)))),
         b'D' => Line::Call(Call::Change(Change::Drop(n[0], n[1]))),
         b'Q' => Line::Call(Call::Ask(ask_of(n))),
+        b'W' => Line::Call(Call::Ask(window_of(n))),
         _ => Line::NoCall,
     }
 }

@@ -1,17 +1,20 @@
 // A call line written in front of some bytes whose rest is kept.
 ghost use mathlib.Core.Path.{_≡_};
 ghost use mathlib.Core.Bool.{true};
+ghost use mathlib.Core.List.{_∷_};
 ghost use Prim.Native.Nat.{_+_, _*_};
+ghost use Rattle.grid.specs.declared.When.the-variants.{At, During};
 ghost use Rattle.ledger.specs.declared.Call.the-variants as Calls;
 ghost use Rattle.fields.specs.Fields.{isWritable};
 ghost use Rattle.fields.specs.Numbers.{areWritable};
-ghost use Rattle.lines.specs.Lines.{lineOf, reportNumbers, changeNumbers, rectNumbers, askNumbers, numbersOf, callLine, Room, Written};
+ghost use Rattle.lines.specs.Lines.{lineOf, whenLetter, reportNumbers, changeNumbers, rectNumbers, askNumbers, numbersOf, callLine, Room, Written};
 ghost use Rattle.lines.specs.Writing.{cornersOf};
 use crate::Line;
 use fields::WIDTH;
 use fields::numbers::write_numbers;
 use grid::Rect;
 use grid::Report;
+use grid::When;
 use ledger::Ask;
 use ledger::Call;
 use ledger::Change;
@@ -79,14 +82,34 @@ fn corners_of(rect: Rect) -> Corners
     }
 }
 
+fn write_timeslice(method: i32, time: i32, rect: Rect, out: &mut [u8]) -> usize
+    requires { ⌜ Room (method ∷ time ∷ rectNumbers rect) (now out) ⌝ }
+    ensures { λ r. ⌜ Written (lineOf (whenLetter (At time)) (method ∷ time ∷ rectNumbers rect)) (now (out .entry)) (now (out .exit)) r ⌝ }
+{
+    let c = corners_of(rect);
+    let numbers = [method, time, c.low_x, c.low_y, c.high_x, c.high_y];
+    write_line(b'Q', &numbers, out)
+}
+
+fn write_window(method: i32, first: i32, last: i32, rect: Rect, out: &mut [u8]) -> usize
+    requires { ⌜ Room (method ∷ first ∷ last ∷ rectNumbers rect) (now out) ⌝ }
+    ensures { λ r. ⌜ Written (lineOf (whenLetter (During first last)) (method ∷ first ∷ last ∷ rectNumbers rect)) (now (out .entry)) (now (out .exit)) r ⌝ }
+{
+    let c = corners_of(rect);
+    let numbers = [method, first, last, c.low_x, c.low_y, c.high_x, c.high_y];
+    write_line(b'W', &numbers, out)
+}
+
 fn write_ask(ask: Ask, out: &mut [u8]) -> usize
     requires { ⌜ Room (askNumbers ask) (now out) ⌝ }
     ensures { λ r. ⌜ Written (callLine (Line.Call (Calls.Ask ask))) (now (out .entry)) (now (out .exit)) r ⌝ }
 {
     let q = ask.query;
-    let c = corners_of(q.rect);
-    let numbers = [ask.method, q.time, c.low_x, c.low_y, c.high_x, c.high_y];
-    write_line(b'Q', &numbers, out)
+    let when = q.when;
+    match when {
+        When::At(time) => write_timeslice(ask.method, time, q.rect, out),
+        When::During(first, last) => write_window(ask.method, first, last, q.rect, out),
+    }
 }
 
 // A call's line in front, the rest kept; the bytes written are returned. What is no call writes nothing.

@@ -315,32 +315,33 @@ meets-leads i l g d r small h o m =
       in-range = rw (v .travel) (p .in-range);
     }
 
+-- a position of a span, moved by s, shows where the span's ends lie: its low end moved less far is not above, its high end moved farther not below
+pub low-end-before : (lo : End) (x s t high : ℤ) → notBelow lo x ≡ true → leZ t s ≡ true → leZ (x +ℤ s) high ≡ true → notBelow (shifted lo t) high ≡ true
+low-end-before endless x s t high h k m = refl
+low-end-before (at e) x s t high h k m = omega (arith, signed, add x s, add e t)
+
+pub high-end-after : (hi : End) (x s t low : ℤ) → notAbove hi x ≡ true → leZ s t ≡ true → leZ low (x +ℤ s) ≡ true → notAbove (shifted hi t) low ≡ true
+high-end-after endless x s t low h k m = refl
+high-end-after (at e) x s t low h k m = omega (arith, signed, add x s, add e t)
+
 pub leads-meets : (i : ℕ) (l g d : ℤ) (r : Range) → Leads i l g d r → meets (movedSpan (cellSpan i) l g d) r ≡ true
 unfolding inSpan
 leads-meets i l g d r e =
     let lo = cellSpan i .low in
     let hi = cellSpan i .high in
     let t = travels l g (e .v) d (e .from-least) (e .to-greatest) in
-    let a = before lo (e .x) (e .v *ℤ d) (leastTravel l g d) (r .high) (and-left _ (notAbove hi (e .x)) (e .in-span)) (t .0) (to-high (r .low) (r .high) _ (e .in-range)) in
-    let b = after hi (e .x) (e .v *ℤ d) (greatestTravel l g d) (r .low) (and-right (notBelow lo (e .x)) _ (e .in-span)) (t .1) (from-low (r .low) (r .high) _ (e .in-range)) in
+    let a = low-end-before lo (e .x) (e .v *ℤ d) (leastTravel l g d) (r .high) (and-left _ (notAbove hi (e .x)) (e .in-span)) (t .0) (to-high (r .low) (r .high) _ (e .in-range)) in
+    let b = high-end-after hi (e .x) (e .v *ℤ d) (greatestTravel l g d) (r .low) (and-right (notBelow lo (e .x)) _ (e .in-span)) (t .1) (from-low (r .low) (r .high) _ (e .in-range)) in
     rw meets-is (and-true _ _ a b)
-  where
-    before : (lo : End) (x s t high : ℤ) → notBelow lo x ≡ true → leZ t s ≡ true → leZ (x +ℤ s) high ≡ true → notBelow (shifted lo t) high ≡ true
-    before endless x s t high h k m = refl
-    before (at e) x s t high h k m = omega (arith, signed, add x s, add e t)
-
-    after : (hi : End) (x s t low : ℤ) → notAbove hi x ≡ true → leZ s t ≡ true → leZ low (x +ℤ s) ≡ true → notAbove (shifted hi t) low ≡ true
-    after endless x s t low h k m = refl
-    after (at e) x s t low h k m = omega (arith, signed, add x s, add e t)
 
 -- ---- a moved span that meets a range meets the expanded range where it is: an end moved by t is not past z exactly when it is itself not past z - t
 
-low-moves : (e : End) (t z : ℤ) → notBelow (shifted e t) z ≡ notBelow e (z -ℤ t)
+pub low-moves : (e : End) (t z : ℤ) → notBelow (shifted e t) z ≡ notBelow e (z -ℤ t)
 low-moves endless t z = refl
 low-moves (at e) t z =
     same-truth _ _ (λ h. omega (arith, signed, add e t, sub z t)) (λ h. omega (arith, signed, add e t, sub z t))
 
-high-moves : (e : End) (t z : ℤ) → notAbove (shifted e t) z ≡ notAbove e (z -ℤ t)
+pub high-moves : (e : End) (t z : ℤ) → notAbove (shifted e t) z ≡ notAbove e (z -ℤ t)
 high-moves endless t z = refl
 high-moves (at e) t z =
     same-truth _ _ (λ h. omega (arith, signed, add e t, sub z t)) (λ h. omega (arith, signed, add e t, sub z t))

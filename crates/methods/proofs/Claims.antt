@@ -17,7 +17,7 @@ use Rattle.rows.specs.Row.{emptyRow, isEmpty, sameRow}
 use Rattle.rows.specs.Phases.{referenceTime}
 use Rattle.rows.specs.declared.Row.{Row}
 use Rattle.methods.specs.Reach.{wholeGrid, cellsOf}
-use Rattle.methods.specs.Aims.{Aim, sliceAim, sliceOf, aimIn, placedBy, ownCell, heldBy, inSlice}
+use Rattle.methods.specs.Aims.{Aim, sliceAim, viewOf, aimIn, placedBy, ownCell, heldBy, inView}
 use Rattle.methods.specs.Fair.{InOrder, Fair}
 use Rattle.methods.specs.Methods.{Rows, Found, missing, found, cellsFound, boundsIn, phaseBounds}
 use Rattle.methods.specs.Methods.{expandedBlock, naiveBlock, semiNaiveBlock, iterated, mostRounds, iterativeSearch, isReached, choice}
@@ -27,7 +27,8 @@ use Rattle.methods.proofs.Blocks.{cells-have, grid-has, BlockWithin, ce
 use Rattle.methods.proofs.Exact.{own-reached, reached-is-exact}
 use Rattle.methods.proofs.Nesting.{expand, size, in-bounds, next, Shrinking, naive-shrinking, next-shrinking, expand-holds, not-missing}
 use Rattle.methods.proofs.Methods.{found-on, expanded-on}
-use Rattle.methods.proofs.Timeslice.{timeslice-is-fair, timeslice-sees, listed-inside}
+use Rattle.methods.proofs.Timeslice.{timeslice-is-fair}
+use Rattle.methods.proofs.Views.{query-is-fair, query-sees, listed-inside}
 use Rattle.methods.proofs.Rounds.{Few, none-is, onward-is, search-within, search-keeps, search-few, search-ends}
 
 -- ---- what an expansion comes to
@@ -198,8 +199,8 @@ pub listed-is-read :
     → (method : ℕ)
     → Reads method rows (aimIn p query) (cellAtTime r (referenceTime p))
 listed-is-read rows valid p query o r h k =
-    let s = sliceOf p query in
-    no-float-is-missed rows valid (sliceAim s) (timeslice-is-fair s o) (inSlice s) (timeslice-sees s) (placedBy p r) h (sym (listed-inside p query r) ∙ k)
+    no-float-is-missed rows valid (aimIn p query) (query-is-fair p query o) (inView (viewOf p query)) (query-sees p query) (placedBy p r) h
+    (sym (listed-inside p query r) ∙ k)
 
 pub optimal-is-exact : OptimalIsExact
 optimal-is-exact rows valid s is c on =

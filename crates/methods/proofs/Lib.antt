@@ -3,6 +3,8 @@ pub mod Blocks
 pub mod BoundsInOnePass
 pub mod Nesting
 pub mod Timeslice
+pub mod Windows
+pub mod Views
 pub mod Exact
 pub mod Rounds
 pub mod Methods

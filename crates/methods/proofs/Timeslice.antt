@@ -1,6 +1,6 @@
 -- A timeslice is a fair aim, whatever d is, and a float that is in its rectangle lies in a cell that meets.
 -- Assumes nothing.
-use mathlib.Core.Path.{_≡_, ap₂, subst}
+use mathlib.Core.Path.{_≡_, subst}
 use mathlib.Core.Bool.{true, false, _&&_}
 use mathlib.Core.List.{List·Memᴰ}
 use Prim.Native.Nat.{ℕ, _≤_, _<_}
@@ -9,19 +9,15 @@ use Rattle.ints.specs.Whole.{between}
 use Rattle.ints.proofs.Truth.{and-true, and-left, and-right}
 use Rattle.grid.specs.Units.{side}
 use Rattle.grid.specs.Places.{OnGrid, positionAfter, columnOf, cellSpan, inSpan, notBelow, notAbove}
-use Rattle.grid.specs.Reports.{inRect, isListed}
+use Rattle.grid.specs.Reports.{inRect}
 use Rattle.grid.specs.declared.Cell.{Cell}
-use Rattle.grid.specs.declared.Query.{Query}
 use Rattle.grid.specs.declared.Range.{Range}
-use Rattle.grid.specs.declared.Report.{Report}
-use Rattle.grid.proofs.ReportsLaws.{x-moved, y-moved}
 use Rattle.grid.proofs.PlacesLaws.{in-own-cell, starts-by-column, ends-from-column}
 use Rattle.rows.specs.Row.{joined, isEmpty, validRow, Within}
-use Rattle.rows.specs.Phases.{referenceTime}
 use Rattle.rows.specs.declared.Row.{Row}
 use Rattle.rows.proofs.RowLaws.{within-joined-left, held-within, valid-ranged}
 use Rattle.methods.specs.Reach.{expandedRange, expandedRect, blockOf, cellsOf, movedSpan, meets, movedCellMeets}
-use Rattle.methods.specs.Aims.{sliceOf, Placed, placedBy, ownCell, heldBy, inSlice}
+use Rattle.methods.specs.Aims.{Placed, ownCell, heldBy, inSlice}
 use Rattle.methods.specs.Fair.{InOrder, RectWithin}
 use Rattle.methods.specs.Claims.{TimesliceIsFair, TimesliceSees}
 use Rattle.methods.specs.declared.Slice.{Slice}
@@ -43,7 +39,7 @@ meets-between i on l g d r m =
     (ends-from-column i (e .low) (and-right (notBelow (cellSpan i .low) (e .high)) _ k), starts-by-column i on (e .high) (and-left _ (notAbove (cellSpan i .high) (e .low)) k))
 
 module _ (s : Slice) where
-  slice-ordered : InOrder (s .rect) → (w : Row) → validRow w ≡ true → isEmpty w ≡ false → InOrder (expandedRect s w)
+  pub slice-ordered : InOrder (s .rect) → (w : Row) → validRow w ≡ true → isEmpty w ≡ false → InOrder (expandedRect s w)
   unfolding expandedRect
   slice-ordered o w v e =
       let k = valid-ranged w v e in
@@ -52,7 +48,7 @@ module _ (s : Slice) where
         y-ordered = expanded-ordered (s .rect .y) _ _ (s .d) (o .y-ordered) (k .y .order);
       }
 
-  slice-grows : (v w : Row) → joined v w ≡ w → RectWithin (expandedRect s v) (expandedRect s w)
+  pub slice-grows : (v w : Row) → joined v w ≡ w → RectWithin (expandedRect s v) (expandedRect s w)
   unfolding expandedRect
   slice-grows v w e =
       let h = subst (Within v) e (within-joined-left v w) in
@@ -110,11 +106,3 @@ module _ (s : Slice) (f : Placed) (w : Row) (h : heldBy w f ≡ true) (k : inSli
 
 pub timeslice-sees : TimesliceSees
 timeslice-sees s = record { own-cell-meets = own-meets s }
-
--- ---- queries
-
--- a report is listed exactly where its float, placed in any phase, is inside
-pub listed-inside : (p : ℕ) (query : Query) (r : Report) → isListed query r ≡ inSlice (sliceOf p query) (placedBy p r)
-unfolding isListed
-listed-inside p query r =
-    ap₂ (inRect (query .rect)) (x-moved r (referenceTime p) (query .time)) (y-moved r (referenceTime p) (query .time))

@@ -1,21 +1,25 @@
 -- What is claimed of the four methods, for every table of valid rows: of any fair aim that they are nested, take few rounds and miss no float, and of
--- a timeslice that it is fair and that the optimal method is exact. The proofs are in proofs/.
+-- a timeslice and a window that each is fair and sees its floats, of a timeslice alone that the optimal method is exact. The proofs are in proofs/.
 -- Assumes nothing.
 use mathlib.Core.Path.{_≡_}
-use mathlib.Core.Bool.{Bool, true}
+use mathlib.Core.Bool.{Bool, true, false}
 use mathlib.Core.Logic.{_↔_}
 use mathlib.Core.List.{List·Memᴰ}
 use Prim.Native.Nat.{ℕ, _+_, _≤_}
-use Rattle.grid.specs.Places.{OnGrid, inCell}
+use lib.Signed.{leZ}
+use Rattle.grid.specs.Places.{End, Span, endless, at, OnGrid, inCell}
 use Rattle.grid.specs.declared.Cell.{Cell}
+use Rattle.grid.specs.declared.Rect.{Rect}
 use Rattle.rows.specs.Row.{validRow}
-use Rattle.methods.specs.Reach.{columnsOf, rowsOf}
-use Rattle.methods.specs.Aims.{Aim, sliceAim, Placed, ownCell, heldBy, inSlice}
-use Rattle.methods.specs.Fair.{InOrder, Fair, Sees}
+use Rattle.rows.specs.declared.Row.{Row}
+use Rattle.methods.specs.Reach.{aroundRects, columnsOf, rowsOf, aroundSpans}
+use Rattle.methods.specs.Aims.{Aim, sliceAim, windowAim, Placed, ownCell, heldBy, inSlice, inWindow}
+use Rattle.methods.specs.Fair.{InOrder, RectWithin, Fair, Sees}
 use Rattle.methods.specs.Methods.{Rows, found, naiveBlock, choice}
 use Rattle.methods.specs.Slices.{IsSlice}
 use Rattle.methods.specs.declared.Block.{Block}
 use Rattle.methods.specs.declared.Slice.{Slice}
+use Rattle.methods.specs.declared.Window.{Window}
 
 -- rows that are valid, each
 abbrev pub ValidRows : Rows → Type 0
@@ -61,6 +65,55 @@ NoFloatIsMissed =
     → inside f ≡ true
     → (method : ℕ)
     → Reads method rows aim (ownCell f)
+
+-- ---- windows
+
+-- A3: the rectangle around two holds both, and lies in every rectangle that holds both
+pub record SmallestAround (a b : Rect) : Type 0 where
+  pub holds-first : RectWithin a (aroundRects a b)
+  pub holds-second : RectWithin b (aroundRects a b)
+  pub smallest : (q : Rect) → RectWithin a q → RectWithin b q → RectWithin (aroundRects a b) q
+
+abbrev pub AroundIsSmallest : Type 0
+AroundIsSmallest = (a b : Rect) → SmallestAround a b
+
+-- the same of spans: an endless end reaches as far as any
+abbrev pub reachesDown : End → End → Bool
+reachesDown endless b = true
+reachesDown (at a) endless = false
+reachesDown (at a) (at b) = leZ a b
+
+abbrev pub reachesUp : End → End → Bool
+reachesUp endless b = true
+reachesUp (at a) endless = false
+reachesUp (at a) (at b) = leZ b a
+
+pub record SpanWithin (s t : Span) : Type 0 where
+  pub down-to : reachesDown (t .low) (s .low) ≡ true
+  pub up-to : reachesUp (t .high) (s .high) ≡ true
+
+pub record SmallestSpan (s t : Span) : Type 0 where
+  pub holds-first : SpanWithin s (aroundSpans s t)
+  pub holds-second : SpanWithin t (aroundSpans s t)
+  pub smallest : (u : Span) → SpanWithin s u → SpanWithin t u → SpanWithin (aroundSpans s t) u
+
+abbrev pub AroundSpansIsSmallest : Type 0
+AroundSpansIsSmallest = (s t : Span) → SmallestSpan s t
+
+-- whatever its times are, in order or not
+abbrev pub WindowIsFair : Type 0
+WindowIsFair = (w : Window) → InOrder (w .rect) → Fair (windowAim w)
+
+abbrev pub WindowSees : Type 0
+WindowSees = (w : Window) → Sees (windowAim w) (inWindow w)
+
+-- A3: a window of one time has the timeslice's aim, for every row and cell. That it lists the same floats is part of `WindowOfOneTimeIsTimeslice`
+pub record SameAim (a b : Aim) : Type 0 where
+  pub same-expansion : (r : Row) → a .expanded r ≡ b .expanded r
+  pub same-meeting : (c : Cell) (r : Row) → a .meets c r ≡ b .meets c r
+
+abbrev pub OneTimeIsTimeslice : Type 0
+OneTimeIsTimeslice = (s : Slice) → SameAim (windowAim (record { rect = s .rect; first = s .d; last = s .d })) (sliceAim s)
 
 -- ---- timeslices
 

@@ -1,10 +1,13 @@
 -- What a timeslice and a cell reach at the speeds of a row: document 01, "The four ways to choose cells", the two rules "per axis" and the block
--- of a rectangle. Positions are centimetres, speeds centimetres per second; d is the asked time less a reference time, in seconds.
+-- of a rectangle; and what a window and a cell reach: document 02, A3, the smallest around what they reach at both its times. Positions are
+-- centimetres, speeds centimetres per second; d, and the first and last of a
+-- window, are an asked time less a reference time, in seconds.
 -- Assumes nothing.
 use mathlib.Core.Bool.{Bool, _&&_}
 use mathlib.Core.List.{List, [], _∷_, _++_}
 use Prim.Native.Nat.{ℕ, zero, suc, _-_, _≤_}
 use lib.IntN.{ℤ, pos, negsuc, _+ℤ_, _-ℤ_, _*ℤ_}
+use Rattle.ints.specs.Whole.{minZ, maxZ}
 use Rattle.grid.specs.Units.{side}
 use Rattle.grid.specs.Places.{End, Span, endless, at, columnOf, rowOf, cellSpan, notBelow, notAbove}
 use Rattle.grid.specs.Curve.{cell}
@@ -14,6 +17,7 @@ use Rattle.grid.specs.declared.Range.{Range}
 use Rattle.grid.specs.declared.Rect.{Rect}
 use Rattle.methods.specs.declared.Block.{Block}
 use Rattle.methods.specs.declared.Slice.{Slice}
+use Rattle.methods.specs.declared.Window.{Window}
 
 -- ---- expanding a rectangle
 
@@ -30,6 +34,24 @@ expandedRect s b = record {
   x = expandedRange (s .rect .x) (b .«least_vx») (b .«greatest_vx») (s .d);
   y = expandedRange (s .rect .y) (b .«least_vy») (b .«greatest_vy») (s .d);
 }
+
+-- the smallest range, and the smallest rectangle, that holds two
+abbrev pub aroundRanges : Range → Range → Range
+aroundRanges a b = record { low = minZ (a .low) (b .low); high = maxZ (a .high) (b .high) }
+
+abbrev pub aroundRects : Rect → Rect → Rect
+aroundRects a b = record { x = aroundRanges (a .x) (b .x); y = aroundRanges (a .y) (b .y) }
+
+-- a window at its two times
+abbrev pub atFirst : Window → Slice
+atFirst w = record { rect = w .rect; d = w .first }
+
+abbrev pub atLast : Window → Slice
+atLast w = record { rect = w .rect; d = w .last }
+
+-- the rectangle of a window expanded by bounds
+unfoldable pub expandedWindow : Window → Row → Rect
+expandedWindow w b = aroundRects (expandedRect (atFirst w) b) (expandedRect (atLast w) b)
 
 -- ---- blocks
 
@@ -98,3 +120,27 @@ unfoldable pub movedCellMeets : Slice → Cell → Row → Bool
 movedCellMeets s c r =
     meets (movedSpan (cellSpan (c .column)) (r .«least_vx») (r .«greatest_vx») (s .d)) (s .rect .x)
     && meets (movedSpan (cellSpan (c .row)) (r .«least_vy») (r .«greatest_vy») (s .d)) (s .rect .y)
+
+-- the smallest span that holds two; a side that is endless in one of them stays endless
+abbrev pub lowest : End → End → End
+lowest endless b = endless
+lowest (at a) endless = endless
+lowest (at a) (at b) = at (minZ a b)
+
+abbrev pub highest : End → End → End
+highest endless b = endless
+highest (at a) endless = endless
+highest (at a) (at b) = at (maxZ a b)
+
+abbrev pub aroundSpans : Span → Span → Span
+aroundSpans s t = record { low = lowest (s .low) (t .low); high = highest (s .high) (t .high) }
+
+-- a span moved to both times of a window
+abbrev pub movedAround : Span → ℤ → ℤ → Window → Span
+movedAround s least greatest w = aroundSpans (movedSpan s least greatest (w .first)) (movedSpan s least greatest (w .last))
+
+-- whether the smallest rectangle around a cell, moved to both times of a window, meets the window's rectangle
+unfoldable pub movedAroundMeets : Window → Cell → Row → Bool
+movedAroundMeets w c r =
+    meets (movedAround (cellSpan (c .column)) (r .«least_vx») (r .«greatest_vx») w) (w .rect .x)
+    && meets (movedAround (cellSpan (c .row)) (r .«least_vy») (r .«greatest_vy») w) (w .rect .y)

@@ -1,4 +1,5 @@
-// What the definitions of the four ways to choose cells speak of: document 01, "The four ways to choose cells". The code is in crates/choosing.
+// What the definitions of the four ways to choose cells speak of: document 01, "The four ways to choose cells", and document 02, A3, for
+// windows. The code is in crates/choosing.
 
 use grid::Rect;
 
@@ -6,6 +7,19 @@ use grid::Rect;
 pub struct Slice {
     pub rect: Rect,
     pub d: i64,
+}
+
+// A window seen from there: its rectangle, from `first` to `last` seconds after that time.
+pub struct Window {
+    pub rect: Rect,
+    pub first: i64,
+    pub last: i64,
+}
+
+// A query seen from a phase's reference time.
+pub enum View {
+    Slice(Slice),
+    Window(Window),
 }
 
 // Every cell from a first column and row to a last column and row.

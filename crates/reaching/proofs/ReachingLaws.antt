@@ -17,18 +17,20 @@ use Rattle.ints.proofs.Truth.{and-left, and-right}
 use Rattle.grid.specs.Units.{side, cellSize, lastPosition, speedLimit, lastTime, askBefore}
 use Rattle.grid.specs.Places.{cellSpan, notBelow, notAbove}
 use Rattle.grid.specs.Reports.{isPosition}
-use Rattle.grid.specs.declared.Query.{Query}
+use Rattle.grid.specs.declared.Cell.{Cell}
 use Rattle.grid.specs.declared.Range.{Range}
 use Rattle.grid.specs.declared.Rect.{Rect}
 use Rattle.rows.specs.Row.{validRow}
 use Rattle.rows.specs.Phases.{phaseSeconds, referenceTime, sinceReference}
 use Rattle.rows.specs.declared.Row.{Row}
 use Rattle.rows.proofs.RowLaws.{Ranged, valid-cases}
-use Rattle.methods.specs.Reach.{expandedRange, movedSpan, meets}
+use Rattle.methods.specs.Reach.{expandedRange, expandedRect, aroundRanges, expandedWindow, movedSpan, meets, movedAround, movedAroundMeets}
 use Rattle.methods.specs.Slices.{latest}
-use Rattle.reaching.specs.Reaching.{IsAsk, SmallAxis, CanSee}
+use Rattle.reaching.specs.Reaching.{IsAsk, SmallAxis, CanCount}
 use Rattle.methods.specs.declared.Slice.{Slice}
+use Rattle.methods.specs.declared.Window.{Window}
 use Rattle.methods.proofs.Axis.{expanded-is, meets-expanded}
+use Rattle.methods.proofs.Windows.{around-meets-expanded}
 
 -- ---- expanding
 
@@ -121,10 +123,9 @@ module _ {s : Slice} (a : IsAsk s) (r : Row) (v : validRow r ≡ true) where
       }
 
 -- two times in range are no further apart than the last time
-pub since-fits : {query : Query} {p : ℕ} → CanSee query p → SFits w64 (sinceReference p (query .time))
+pub since-fits : {s : ℤ} {p : ℕ} → CanCount s p → SFits w64 (sinceReference p s)
 unfolding referenceTime
-since-fits {query} {p} can =
-    let s = query .time in
+since-fits {s} {p} can =
     let low = and-left (leZ (pos 0) s) (leZ s (pos lastTime)) (can .is-time) in
     let high = and-right (leZ (pos 0) s) (leZ s (pos lastTime)) (can .is-time) in
     fits (omega (arith, signed, sub s (pos (phaseSeconds * p)), one-part s, can .small-phase))
@@ -177,29 +178,76 @@ pub meets-called :
     → r ≡ meets (movedSpan (cellSpan i) l g d) range
 meets-called i range = axis-called (λ (l g d : ℤ). meets (movedSpan (cellSpan i) l g d) range)
 
--- the two tests of a column against the expanded range, as calls gave them back
-module _ (i : ℕ) (l g d : ℤ) (range reach : Range) (s : Bool) where
-  pub meets-both :
+-- the two tests of a column against a range, as calls gave them back
+module _ (i : ℕ) (range : Range) (s : Bool) where
+  pub column-both :
       (t : Bool)
-      → reach ≡ expandedRange range l g d
       → s ≡ true
-      → s ≡ notBelow (cellSpan i .low) (back w64 (reach .high))
-      → mag (reach .high) < 2 ^ hbits w64
-      → t ≡ notAbove (cellSpan i .high) (back w64 (reach .low))
-      → mag (reach .low) < 2 ^ hbits w64
-      → t ≡ meets (movedSpan (cellSpan i) l g d) range
-  meets-both t e taken p h q k =
-      both s t _ _ taken (tested₁ w64 (notBelow (cellSpan i .low)) s (reach .high) p h) (tested₁ w64 (notAbove (cellSpan i .high)) t (reach .low) q k)
-      ∙ ap (λ (r : Range). notBelow (cellSpan i .low) (r .high) && notAbove (cellSpan i .high) (r .low)) e
-      ∙ sym (meets-expanded (cellSpan i) l g d range)
+      → s ≡ notBelow (cellSpan i .low) (back w64 (range .high))
+      → mag (range .high) < 2 ^ hbits w64
+      → t ≡ notAbove (cellSpan i .high) (back w64 (range .low))
+      → mag (range .low) < 2 ^ hbits w64
+      → t ≡ notBelow (cellSpan i .low) (range .high) && notAbove (cellSpan i .high) (range .low)
+  column-both t taken p h q k =
+      both s t _ _ taken (tested₁ w64 (notBelow (cellSpan i .low)) s (range .high) p h) (tested₁ w64 (notAbove (cellSpan i .high)) t (range .low) q k)
 
-  pub meets-neither :
-      reach ≡ expandedRange range l g d
-      → s ≡ false
-      → s ≡ notBelow (cellSpan i .low) (back w64 (reach .high))
-      → mag (reach .high) < 2 ^ hbits w64
-      → s ≡ meets (movedSpan (cellSpan i) l g d) range
-  meets-neither e failed p h =
-      neither s _ (notAbove (cellSpan i .high) (reach .low)) failed (tested₁ w64 (notBelow (cellSpan i .low)) s (reach .high) p h)
-      ∙ ap (λ (r : Range). notBelow (cellSpan i .low) (r .high) && notAbove (cellSpan i .high) (r .low)) e
-      ∙ sym (meets-expanded (cellSpan i) l g d range)
+  pub column-neither :
+      s ≡ false
+      → s ≡ notBelow (cellSpan i .low) (back w64 (range .high))
+      → mag (range .high) < 2 ^ hbits w64
+      → s ≡ notBelow (cellSpan i .low) (range .high) && notAbove (cellSpan i .high) (range .low)
+  column-neither failed p h = neither s _ (notAbove (cellSpan i .high) (range .low)) failed (tested₁ w64 (notBelow (cellSpan i .low)) s (range .high) p h)
+
+-- a moved column meets a range where it meets the expanded one
+pub meets-moved :
+    (i : ℕ) (l g d : ℤ) (range reach : Range) (t : Bool)
+    → t ≡ notBelow (cellSpan i .low) (reach .high) && notAbove (cellSpan i .high) (reach .low)
+    → reach ≡ expandedRange range l g d
+    → t ≡ meets (movedSpan (cellSpan i) l g d) range
+meets-moved i l g d range reach t p e =
+    p
+    ∙ ap (λ (r : Range). notBelow (cellSpan i .low) (r .high) && notAbove (cellSpan i .high) (r .low)) e
+    ∙ sym (meets-expanded (cellSpan i) l g d range)
+
+-- a column moved to both times of a window: it meets a range where it meets, where it is, the range around both expanded ones
+abbrev expandedBoth : Range → ℤ → ℤ → Window → Range
+expandedBoth range l g w = aroundRanges (expandedRange range l g (w .first)) (expandedRange range l g (w .last))
+
+moved-both :
+    (i : ℕ) (l g : ℤ) (w : Window) (range reach : Range) (t : Bool)
+    → t ≡ notBelow (cellSpan i .low) (reach .high) && notAbove (cellSpan i .high) (reach .low)
+    → reach ≡ expandedBoth range l g w
+    → t ≡ meets (movedAround (cellSpan i) l g w) range
+moved-both i l g w range reach t p e =
+    p
+    ∙ ap (λ (r : Range). notBelow (cellSpan i .low) (r .high) && notAbove (cellSpan i .high) (r .low)) e
+    ∙ sym (around-meets-expanded (cellSpan i) l g (w .first) (w .last) range)
+
+-- a cell moved so: r and t are what the tests of both axes gave back
+module _ (w : Window) (c : Cell) (row : Row) (reach : Rect) (is : reach ≡ expandedWindow w row) (r : Bool) where
+  x-is : reach .x ≡ expandedBoth (w .rect .x) (row .«least_vx») (row .«greatest_vx») w
+  unfolding expandedWindow expandedRect
+  x-is = ap (λ (q : Rect). q .x) is
+
+  y-is : reach .y ≡ expandedBoth (w .rect .y) (row .«least_vy») (row .«greatest_vy») w
+  unfolding expandedWindow expandedRect
+  y-is = ap (λ (q : Rect). q .y) is
+
+  pub window-neither :
+      r ≡ notBelow (cellSpan (c .column) .low) (reach .x .high) && notAbove (cellSpan (c .column) .high) (reach .x .low)
+      → r ≡ false
+      → r ≡ movedAroundMeets w c row
+  unfolding movedAroundMeets
+  window-neither e failed = neither r _ _ failed (moved-both (c .column) _ _ w (w .rect .x) (reach .x) r e x-is)
+
+  pub window-both :
+      (t : Bool)
+      → r ≡ notBelow (cellSpan (c .column) .low) (reach .x .high) && notAbove (cellSpan (c .column) .high) (reach .x .low)
+      → r ≡ true
+      → t ≡ notBelow (cellSpan (c .row) .low) (reach .y .high) && notAbove (cellSpan (c .row) .high) (reach .y .low)
+      → t ≡ movedAroundMeets w c row
+  unfolding movedAroundMeets
+  window-both t e taken f =
+      both r t _ _ taken
+      (moved-both (c .column) _ _ w (w .rect .x) (reach .x) r e x-is)
+      (moved-both (c .row) _ _ w (w .rect .y) (reach .y) t f y-is)

@@ -1,19 +1,27 @@
-// What a timeslice and a cell reach at the speeds of a row. Positions are centimetres, speeds centimetres per second.
+// What a query, seen from a phase, and a cell reach at the speeds of a row. Positions are centimetres, speeds centimetres per second.
 ghost use mathlib.Core.Path.{_≡_};
+ghost use mathlib.Core.Bool.{_&&_};
 ghost use Prim.Native.Nat.{_<_, _^_};
 ghost use lib.IntN.{pos, _-ℤ_, _*ℤ_};
 ghost use Rattle.grid.specs.Units.{side};
 ghost use Rattle.grid.specs.Places.{cellSpan, notBelow, notAbove};
 ghost use Rattle.methods.specs.Reach.{expandedRange, expandedRect, blockOf, movedSpan, meets, movedCellMeets};
-ghost use Rattle.methods.specs.Aims.{sliceOf};
-ghost use Rattle.reaching.specs.Reaching.{CanSee, CanExpand, CanMeet, SmallMotion, SmallAxis, CanMoveColumn};
+ghost use Rattle.methods.specs.Aims.{aimOf, viewOf};
+ghost use Rattle.rows.specs.Phases.{sinceReference};
+ghost use Rattle.reaching.specs.Reaching.{CanCount, CanSee, CanExpand, CanMeet, CanExpandView, CanMeetView, SmallMotion, SmallAxis, CanMoveColumn};
 use grid::Cell;
 use grid::Query;
 use grid::Range;
 use grid::Rect;
+use grid::When;
+use grid::wide_signed;
 use methods::Block;
 use methods::Slice;
+use methods::View;
+use methods::Window;
 use rows::Row;
+
+mod windows;
 
 fn wide(v: i16) -> i64
     ensures { λ r. ⌜ r ≡ v ⌝ }
@@ -54,18 +62,36 @@ fn expand_range(range: Range, least: i16, greatest: i16, d: i64) -> Range
     }
 }
 
-// A query seen from phase p.
-pub fn slice_of(query: Query, p: usize) -> Slice
-    requires { ⌜ CanSee query p ⌝ }
-    ensures { λ r. ⌜ r ≡ sliceOf p query ⌝ }
+// A time counted from the reference time of phase p.
+fn since_reference(time: i32, p: usize) -> i64
+    requires { ⌜ CanCount time p ⌝ }
+    ensures { λ r. ⌜ r ≡ sinceReference p time ⌝ }
 {
-    let rect = query.rect;
-    let d = query.wide_time() - rows::reference_time(p);
-    Slice { rect, d }
+    wide_signed(time) - rows::reference_time(p)
 }
 
-// The rectangle expanded by bounds.
-pub fn expanded(s: Slice, bounds: Row) -> Rect
+// A query seen from phase p.
+pub fn view_of(query: Query, p: usize) -> View
+    requires { ⌜ CanSee query p ⌝ }
+    ensures { λ r. ⌜ r ≡ viewOf p query ⌝ }
+{
+    let rect = query.rect;
+    let when = query.when;
+    match when {
+        When::At(time) => {
+            let d = since_reference(time, p);
+            View::Slice(Slice { rect, d })
+        }
+        When::During(from, to) => {
+            let first = since_reference(from, p);
+            let last = since_reference(to, p);
+            View::Window(Window { rect, first, last })
+        }
+    }
+}
+
+// The rectangle of a timeslice expanded by bounds.
+fn expanded_slice(s: Slice, bounds: Row) -> Rect
     requires { ⌜ CanExpand s bounds ⌝ }
     ensures { λ r. ⌜ r ≡ expandedRect s bounds ⌝ }
 {
@@ -75,13 +101,35 @@ pub fn expanded(s: Slice, bounds: Row) -> Rect
     }
 }
 
-// Whether a cell, moved by its row's speeds, meets the rectangle.
-pub fn cell_meets(s: Slice, c: Cell, row: Row) -> bool
+// The rectangle expanded by bounds.
+pub fn expanded(v: View, bounds: Row) -> Rect
+    requires { ⌜ CanExpandView v bounds ⌝ }
+    ensures { λ r. ⌜ r ≡ aimOf v .expanded bounds ⌝ }
+{
+    match v {
+        View::Slice(s) => expanded_slice(s, bounds),
+        View::Window(w) => windows::expanded_window(w, bounds),
+    }
+}
+
+// Whether a cell, moved by its row's speeds, meets the rectangle of a timeslice.
+fn slice_meets(s: Slice, c: Cell, row: Row) -> bool
     requires { ⌜ CanMeet s c row ⌝ }
     ensures { λ r. ⌜ r ≡ movedCellMeets s c row ⌝ }
 {
     moved_meets(c.column, row.least_vx, row.greatest_vx, s.rect.x, s.d)
         && moved_meets(c.row, row.least_vy, row.greatest_vy, s.rect.y, s.d)
+}
+
+// Whether a cell, moved by its row's speeds, meets the rectangle.
+pub fn cell_meets(v: View, c: Cell, row: Row) -> bool
+    requires { ⌜ CanMeetView v c row ⌝ }
+    ensures { λ r. ⌜ r ≡ aimOf v .meets c row ⌝ }
+{
+    match v {
+        View::Slice(s) => slice_meets(s, c, row),
+        View::Window(w) => windows::window_meets(w, c, row),
+    }
 }
 
 // Every cell from the column and row of the low corner to those of the high corner.
@@ -118,11 +166,18 @@ fn ends_from(i: usize, z: i64) -> bool
     z <= whole(grid::CELL_SIZE * i + (grid::CELL_SIZE - 1))
 }
 
+// Whether column i, or row i, shares a position with a range.
+fn column_meets(i: usize, range: Range) -> bool
+    requires { ⌜ i < side ⌝ }
+    ensures { λ r. ⌜ r ≡ notBelow (cellSpan i .low) (range .high) && notAbove (cellSpan i .high) (range .low) ⌝ }
+{
+    starts_by(i, range.high) && ends_from(i, range.low)
+}
+
 // Whether column i, or row i, moved by speeds from least to greatest over d, meets a range: it meets the expanded range where it is.
 fn moved_meets(i: usize, least: i16, greatest: i16, range: Range, d: i64) -> bool
     requires { ⌜ CanMoveColumn i range least greatest d ⌝ }
     ensures { λ r. ⌜ r ≡ meets (movedSpan (cellSpan i) least greatest d) range ⌝ }
 {
-    let reach = expand_range(range, least, greatest, d);
-    starts_by(i, reach.high) && ends_from(i, reach.low)
+    column_meets(i, expand_range(range, least, greatest, d))
 }

@@ -51,7 +51,7 @@ unfoldable pub withIds : List ℕ → List Record → List ℕ
 withIds found [] = found
 withIds found (r ∷ rs) = withIds (set found (up (r .report .id)) 1) rs
 
--- what reading asks: a sound store's words, one of the three slots, a mark for each cell and for each id, and a query whose time is small
+-- what reading asks: a sound store's words, one of the three slots, a mark for each cell and for each id, and a query whose numbers are small
 pub record CanReadCells (s : List ℤ) (slot : ℕ) (marks : List ℕ) (query : Query) (found : List ℕ) : Type 0 where
   pub store : IsStore s
   pub one-of-three : slot < 3

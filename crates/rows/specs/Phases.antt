@@ -29,7 +29,7 @@ lastPhase = lastTime / phaseSeconds
 unfoldable pub referenceTime : ℕ → ℤ
 referenceTime p = pos (phaseSeconds * p)
 
--- d: the asked time less the reference time of a phase
+-- d: an asked time less the reference time of a phase
 abbrev pub sinceReference : ℕ → ℤ → ℤ
 sinceReference p asked = asked -ℤ referenceTime p
 

@@ -7,8 +7,8 @@ use Rattle.asking.proofs.choose_in.Tie as tie
 slot-of-requires : tie.Need-slot-of-requires
 slot-of-requires c κs = search needs
 
-slice-of-requires : tie.Need-slice-of-requires
-slice-of-requires c κs = c .before .pre .can-see
+view-of-requires : tie.Need-view-of-requires
+view-of-requires c κs = c .before .pre .can-see
 
 number-of-requires : tie.Need-number-of-requires
 number-of-requires c κs = c .before .before .pre .good-method
@@ -17,12 +17,12 @@ choose-requires : tie.Need-choose-requires
 choose-requires c κs =
     let o = c .before .before in
     let a = o .before .before in
-    rw (o .before .slot-of .ensures, o .slice-of .ensures) (record { of-slot = a .pre .slot; ask = a .pre .is-ask; one-each = search needs })
+    rw (o .before .slot-of .ensures, o .view-of .ensures) (record { of-slot = a .pre .slot; ask = a .pre .is-ask; one-each = search needs })
 
 returns : tie.Need-returns
 returns c =
     let n = c .before .before in
-    rw (n .number-of .ensures, n .before .slice-of .ensures, n .before .before .slot-of .ensures) at (c .choose .ensures)
+    rw (n .number-of .ensures, n .before .view-of .ensures, n .before .before .slot-of .ensures) at (c .choose .ensures)
 
 pub choose-in-spec : {M : Type 1} → statement M
-choose-in-spec = tie.close (tie.spec slot-of-requires slice-of-requires number-of-requires choose-requires returns)
+choose-in-spec = tie.close (tie.spec slot-of-requires view-of-requires number-of-requires choose-requires returns)

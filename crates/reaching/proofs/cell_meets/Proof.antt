@@ -1,25 +1,50 @@
--- `reaching::cell_meets` meets its contract: both axes' tests.
+-- `reaching::cell_meets` meets its contract: a case for each kind of query.
 -- Assumes nothing.
-use Rattle.ints.proofs.Machine.{both, neither}
-use Rattle.methods.specs.Reach.{movedCellMeets}
-use Rattle.reaching.proofs.ReachingLaws.{small-x, small-y, axis-back, meets-called}
+use mathlib.Core.Path.{sym, ap, subst, _∙_}
 use borrow.Author.Needs.{needs}
+use Rattle.methods.specs.Aims.{aimOf}
+use Rattle.methods.specs.declared.View.{View}
+use Rattle.reaching.specs.Reaching.{IsViewAsk}
 use Rattle.reaching.proofs.cell_meets.Statement.{statement}
 use Rattle.reaching.proofs.cell_meets.Tie as tie
 
-moved-meets-requires : tie.Need-moved-meets-requires
-moved-meets-requires c κs = search (needs, axis-back, small-x)
+enum-known-v : tie.Need-enum-known-v
+enum-known-v c = search needs
 
-moved-meets-requires-2 : tie.Need-moved-meets-requires-2
-moved-meets-requires-2 c κs = search (needs, axis-back, small-y)
+slice-meets-requires : tie.Need-slice-meets-requires
+slice-meets-requires c κs =
+    let k = c .before .v in
+    let pre = c .before .before .before .pre in
+    record { ask = subst IsViewAsk (k .given .1) (pre .ask); on-grid = pre .on-grid; valid = pre .valid }
+
+enum-known-v-2 : tie.Need-enum-known-v-2
+enum-known-v-2 c = search needs
+
+window-meets-requires : tie.Need-window-meets-requires
+window-meets-requires c κs =
+    let k = c .before .v2 in
+    let pre = c .before .before .before .pre in
+    record { ask = subst IsViewAsk (k .given .1) (pre .ask); on-grid = pre .on-grid; valid = pre .valid }
 
 returns : tie.Need-returns
-unfolding movedCellMeets
-returns c = search (both, meets-called)
+returns c =
+    let k = c .before .before .v in
+    let a = c .before .before .before .before .args in
+    c .slice-meets .ensures ∙ sym (ap (λ (v : View). aimOf v .meets (a .c) (a .row)) (k .given .1))
 
 returns-2 : tie.Need-returns-2
-unfolding movedCellMeets
-returns-2 c = search (neither, meets-called)
+returns-2 c =
+    let k = c .before .before .v2 in
+    let a = c .before .before .before .before .args in
+    c .window-meets .ensures ∙ sym (ap (λ (v : View). aimOf v .meets (a .c) (a .row)) (k .given .1))
 
 pub cell-meets-spec : {M : Type 1} → statement M
-cell-meets-spec = tie.close (tie.spec moved-meets-requires moved-meets-requires-2 returns returns-2)
+cell-meets-spec =
+    tie.close
+    (tie.spec
+    enum-known-v
+    slice-meets-requires
+    enum-known-v-2
+    window-meets-requires
+    returns
+    returns-2)

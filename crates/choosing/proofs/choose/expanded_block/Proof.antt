@@ -2,7 +2,7 @@
 -- Assumes nothing.
 use mathlib.Core.Path.{ap, _∙_}
 use Rattle.methods.specs.Reach.{blockOf}
-use Rattle.methods.specs.Aims.{sliceAim}
+use Rattle.methods.specs.Aims.{aimOf}
 use Rattle.choosing.proofs.ChooseLaws.{expanded-found}
 use borrow.Author.Needs.{needs}
 use Rattle.choosing.proofs.choose.expanded_block.Statement.{statement}
@@ -20,7 +20,7 @@ block-of-requires c κs = search needs
 returns : tie.Need-returns
 returns c =
     let a = c .before .before .before .args in
-    expanded-found (a .bounds) (sliceAim (a .slice)) (c .before .before .is-empty .ensures)
+    expanded-found (a .bounds) (aimOf (a .view)) (c .before .before .is-empty .ensures)
     (c .block-of .ensures ∙ ap blockOf (c .before .expanded .ensures))
 
 pub expanded-block-spec : {M : Type 1} → statement M

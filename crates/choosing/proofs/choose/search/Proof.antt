@@ -7,7 +7,7 @@ use native.Mathlib.Omega.{arith}
 use denote.Ref.{now}
 use Rattle.rows.specs.declared.Row.{Row}
 use Rattle.methods.specs.Reach.{blockOf}
-use Rattle.methods.specs.Aims.{sliceAim}
+use Rattle.methods.specs.Aims.{aimOf}
 use Rattle.methods.specs.Methods.{iterated, mostRounds}
 use Rattle.methods.specs.Slots.{rowsOfSlot}
 use Rattle.choosing.specs.Bounds.{BlockOnGrid}
@@ -17,10 +17,10 @@ use Rattle.choosing.proofs.choose.search.Statement.{statement}
 use Rattle.choosing.proofs.choose.search.Tie as tie
 
 abbrev Inv-loop : tie.InvT-loop
-Inv-loop table slot slice before₀ block₀ rounds₀ before block rounds = (rounds ≤ mostRounds) × BlockOnGrid block × Onward (rowsOfSlot table slot) (sliceAim slice) block₀ before block rounds
+Inv-loop table slot view before₀ block₀ rounds₀ before block rounds = (rounds ≤ mostRounds) × BlockOnGrid block × Onward (rowsOfSlot table slot) (aimOf view) block₀ before block rounds
 
 abbrev μ-loop : tie.MeasureT-loop
-μ-loop table slot slice before₀ block₀ rounds₀ before block rounds = mostRounds - rounds
+μ-loop table slot view before₀ block₀ rounds₀ before block rounds = mostRounds - rounds
 
 empty-requires : tie.Need-empty-requires Inv-loop μ-loop
 empty-requires c κs = search needs
@@ -31,7 +31,7 @@ loop-holds c =
       omega arith,
       a .pre .block-on,
       ap
-          (λ (w : Row). iterated mostRounds (rowsOfSlot (now (a .args .table)) (a .args .slot)) (sliceAim (a .args .slice)) w (a .args .naive) 0)
+          (λ (w : Row). iterated mostRounds (rowsOfSlot (now (a .args .table)) (a .args .slot)) (aimOf (a .args .view)) w (a .args .naive) 0)
           (c .empty .ensures),
     )
 

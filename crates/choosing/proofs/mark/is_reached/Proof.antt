@@ -3,7 +3,7 @@
 use mathlib.Core.Path.{_≡_, sym, ap, _∙_}
 use denote.Ref.{now}
 use Rattle.rows.specs.Row.{isEmpty, validRow}
-use Rattle.methods.specs.Aims.{sliceAim}
+use Rattle.methods.specs.Aims.{aimOf}
 use Rattle.methods.specs.Slots.{rowsOfSlot}
 use Rattle.choosing.proofs.MarkLaws.{empty-not-reached, reached-is}
 use Rattle.choosing.proofs.BoundsLaws.{slot-valid}
@@ -25,7 +25,7 @@ returns : tie.Need-returns
 returns c =
     let e = c .before in
     let a = e .before .before .args in
-    empty-not-reached (rowsOfSlot (now (a .table)) (a .slot)) (sliceAim (a .slice)) (a .c) (sym (emptiness e) ∙ c .if1 .taken)
+    empty-not-reached (rowsOfSlot (now (a .table)) (a .slot)) (aimOf (a .view)) (a .c) (sym (emptiness e) ∙ c .if1 .taken)
 
 cell-meets-requires : tie.Need-cell-meets-requires
 cell-meets-requires c κs =
@@ -42,7 +42,7 @@ returns-2 c =
     let e = c .before .before in
     let r = e .before in
     let a = r .before .args in
-    let aim = sliceAim (a .slice) in
+    let aim = aimOf (a .view) in
     c .cell-meets .ensures
     ∙ ap (aim .meets (a .c)) (r .row-of-cell .ensures)
     ∙ reached-is (rowsOfSlot (now (a .table)) (a .slot)) aim (a .c) (sym (emptiness e) ∙ c .before .if1 .left)

@@ -2,7 +2,7 @@
 -- Assumes nothing.
 use borrow.Author.Tests.{not-true, not-false}
 use denote.Ref.{now}
-use Rattle.methods.specs.Aims.{sliceAim}
+use Rattle.methods.specs.Aims.{aimOf}
 use Rattle.methods.specs.Slots.{rowsOfSlot}
 use Rattle.choosing.proofs.MarkLaws.{marked-none, reached-one, reached-not}
 use borrow.Author.Needs.{needs}
@@ -15,7 +15,7 @@ is-reached-requires c κs = search needs
 returns : tie.Need-returns
 returns c =
     let a = c .before .before .before .args in
-    rw (reached-not (rowsOfSlot (now (a .table)) (a .slot)) (sliceAim (a .slice)) (a .c) (c .before .is-reached .ensures) (not-true (c .before .is-reached .result) (c .if1 .taken)))
+    rw (reached-not (rowsOfSlot (now (a .table)) (a .slot)) (aimOf (a .view)) (a .c) (c .before .is-reached .ensures) (not-true (c .before .is-reached .result) (c .if1 .taken)))
     (marked-none (now (a .marks)))
 
 mark-cell-requires : tie.Need-mark-cell-requires
@@ -28,7 +28,7 @@ returns-2 : tie.Need-returns-2
 returns-2 c =
     let e = c .before .before .before .before in
     let a = e .before .before .before .args in
-    rw (reached-one (rowsOfSlot (now (a .table)) (a .slot)) (sliceAim (a .slice)) (a .c) (e .before .is-reached .ensures) (not-false (e .before .is-reached .result) (e .if1 .left)))
+    rw (reached-one (rowsOfSlot (now (a .table)) (a .slot)) (aimOf (a .view)) (a .c) (e .before .is-reached .ensures) (not-false (e .before .is-reached .result) (e .if1 .left)))
     (record { marks-are = c .before .before .mark-cell .ensures })
 
 pub mark-if-reached-spec : {M : Type 1} → statement M

@@ -7,7 +7,7 @@ use denote.Ref.{now}
 use lib.ListN.{length}
 use Rattle.grid.specs.Units.{cells}
 use Rattle.methods.specs.Reach.{cellsOf}
-use Rattle.methods.specs.Aims.{sliceAim}
+use Rattle.methods.specs.Aims.{aimOf}
 use Rattle.methods.specs.Methods.{reached}
 use Rattle.methods.specs.Slots.{rowsOfSlot}
 use Rattle.choosing.proofs.MarkPassesLaws.{rowsFrom}
@@ -17,12 +17,12 @@ use Rattle.choosing.proofs.mark.mark_reached.Statement.{statement}
 use Rattle.choosing.proofs.mark.mark_reached.Tie as tie
 
 abbrev Inv-loop : tie.InvT-loop
-Inv-loop table slot b slice marks₀ numbers row₀ marks row =
+Inv-loop table slot b view marks₀ numbers row₀ marks row =
     (length marks ≡ cells)
-    × Left marks₀ (reached (rowsOfSlot table slot) (sliceAim slice) (cellsOf b)) marks (reached (rowsOfSlot table slot) (sliceAim slice) (rowsFrom b row))
+    × Left marks₀ (reached (rowsOfSlot table slot) (aimOf view) (cellsOf b)) marks (reached (rowsOfSlot table slot) (aimOf view) (rowsFrom b row))
 
 abbrev μ-loop : tie.MeasureT-loop
-μ-loop table slot b slice marks₀ numbers row₀ marks row = b .«last_row» + 1 - row
+μ-loop table slot b view marks₀ numbers row₀ marks row = b .«last_row» + 1 - row
 
 curve-numbers-requires : tie.Need-curve-numbers-requires Inv-loop μ-loop
 curve-numbers-requires c κs = search needs
@@ -32,7 +32,7 @@ unfolding cellsOf
 loop-holds c =
     let a = c .before .before in
     let b = a .args .b in
-    (a .pre .one-each, left-all (now (a .args .marks)) (reached (rowsOfSlot (now (a .args .table)) (a .args .slot)) (sliceAim (a .args .slice)) (cellsOf b)))
+    (a .pre .one-each, left-all (now (a .args .marks)) (reached (rowsOfSlot (now (a .args .table)) (a .args .slot)) (aimOf (a .args .view)) (cellsOf b)))
 
 add-if1 : tie.Need-add-if1 Inv-loop μ-loop
 add-if1 c = omega arith

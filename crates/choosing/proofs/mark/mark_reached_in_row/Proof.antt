@@ -8,7 +8,7 @@ use lib.ListN.{length}
 use Rattle.grid.specs.Units.{cells}
 use Rattle.grid.specs.Places.{OnGrid}
 use Rattle.grid.specs.Curve.{cell}
-use Rattle.methods.specs.Aims.{sliceAim}
+use Rattle.methods.specs.Aims.{aimOf}
 use Rattle.methods.specs.Methods.{reached}
 use Rattle.methods.specs.Slots.{rowsOfSlot}
 use Rattle.choosing.proofs.MarkPassesLaws.{rowFrom}
@@ -18,18 +18,18 @@ use Rattle.choosing.proofs.mark.mark_reached_in_row.Statement.{statemen
 use Rattle.choosing.proofs.mark.mark_reached_in_row.Tie as tie
 
 abbrev Inv-loop : tie.InvT-loop
-Inv-loop numbers table slot b row slice marks₀ column₀ marks column =
+Inv-loop numbers table slot b row view marks₀ column₀ marks column =
     (length marks ≡ cells)
-    × Left marks₀ (reached (rowsOfSlot table slot) (sliceAim slice) (rowFrom b row column₀)) marks (reached (rowsOfSlot table slot) (sliceAim slice) (rowFrom b row column))
+    × Left marks₀ (reached (rowsOfSlot table slot) (aimOf view) (rowFrom b row column₀)) marks (reached (rowsOfSlot table slot) (aimOf view) (rowFrom b row column))
 
 abbrev μ-loop : tie.MeasureT-loop
-μ-loop numbers table slot b row slice marks₀ column₀ marks column = b .«last_column» + 1 - column
+μ-loop numbers table slot b row view marks₀ column₀ marks column = b .«last_column» + 1 - column
 
 loop-holds : tie.Need-loop-holds Inv-loop μ-loop
 loop-holds c =
     let a = c .before in
     let b = a .args .b in
-    (a .pre .one-each, left-all (now (a .args .marks)) (reached (rowsOfSlot (now (a .args .table)) (a .args .slot)) (sliceAim (a .args .slice)) (rowFrom b (a .args .row) (b .«first_column»))))
+    (a .pre .one-each, left-all (now (a .args .marks)) (reached (rowsOfSlot (now (a .args .table)) (a .args .slot)) (aimOf (a .args .view)) (rowFrom b (a .args .row) (b .«first_column»))))
 
 add-if1 : tie.Need-add-if1 Inv-loop μ-loop
 add-if1 c = omega arith

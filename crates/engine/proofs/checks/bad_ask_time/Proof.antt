@@ -1,52 +1,65 @@
--- `engine::checks::bad_ask_time` meets its contract: the range of the time first, then how near it is.
+-- `engine::checks::bad_ask_time` meets its contract: each time of the query is judged alike.
 -- Assumes nothing.
-use mathlib.Core.Path.{_≡_, sym, ap, _∙_}
+use mathlib.Core.Path.{sym, ap, _∙_}
 use borrow.Author.Needs.{needs}
-use borrow.Author.Tests.{not-true, not-false}
-use mathlib.Core.Bool.{not}
-use lib.IntN.{pos, _+ℤ_, _-ℤ_}
-use mir.Syntax.{w32, w64}
-use Rattle.ints.specs.Whole.{between}
-use Rattle.ints.proofs.Machine.{tested₁, held}
-use Rattle.grid.specs.Reports.{isTime}
+use mir.Syntax.{w32}
+use Rattle.ints.proofs.Machine.{tested₁, either, otherwise}
+use Rattle.records.specs.Records.{nowOf}
+use Rattle.ledger.specs.Refusals.{outOfAskRange, badWhen}
 use Rattle.engine.proofs.checks.bad_ask_time.Statement.{statement}
 use Rattle.engine.proofs.checks.bad_ask_time.Tie as tie
 
-is-time-requires : tie.Need-is-time-requires
-is-time-requires c κs = search needs
+enum-known-when : tie.Need-enum-known-when
+enum-known-when c = search needs
 
-time-is : (c : tie.After-is-time) → isTime (c .before .before .args .query .time) ≡ c .is-time .result
-time-is c = sym (tested₁ w32 isTime (c .is-time .result) (c .before .before .args .query .time) (c .is-time .ensures) (search needs))
+out-of-ask-range-requires : tie.Need-out-of-ask-range-requires
+out-of-ask-range-requires c κs = search needs
+
+enum-known-when-2 : tie.Need-enum-known-when-2
+enum-known-when-2 c = search needs
+
+out-of-ask-range-requires-2 : tie.Need-out-of-ask-range-requires-2
+out-of-ask-range-requires-2 c κs = search needs
+
+out-of-ask-range-requires-3 : tie.Need-out-of-ask-range-requires-3
+out-of-ask-range-requires-3 c κs = search needs
 
 returns : tie.Need-returns
-returns c = sym (simp (time-is (c .before) ∙ not-true (c .before .is-time .result) (c .if1 .taken)))
-
-now-of-requires : tie.Need-now-of-requires
-now-of-requires c κs = search needs
-
-wide-time-requires : tie.Need-wide-time-requires
-wide-time-requires c κs = search needs
-
-is-near-requires : tie.Need-is-near-requires
-is-near-requires c κs = let n = c .before in simp (held w64 (n .now-of .result) (search needs)) (n .now-of .ensures .1)
+returns c =
+    let k = c .before .before .when .given in
+    let now = nowOf (c .before .before .before .before .args .store .now) in
+    tested₁ w32 (outOfAskRange now) (c .out-of-ask-range .result) (k .0 .0) (c .out-of-ask-range .ensures) (search needs)
+    ∙ sym (ap (badWhen now) (k .1))
 
 returns-2 : tie.Need-returns-2
 returns-2 c =
-    let w = c .before in
-    let n = w .before in
-    let k = n .before in
-    let x = held w64 (n .now-of .result) (search needs) ∙ n .now-of .ensures .0 in
-    let y = held w64 (w .wide-time .result) (search needs) ∙ w .wide-time .ensures in
-    ap not (c .is-near .ensures ∙ (λ i. between (x i -ℤ pos 3600) (x i +ℤ pos 7200) (y i)))
-    ∙ sym (simp (time-is (k .before) ∙ not-false (k .before .is-time .result) (k .if1 .left)))
+    let f = c .before in
+    let k = f .before .before .when2 .given in
+    let now = nowOf (f .before .before .before .before .args .store .now) in
+    either (f .out-of-ask-range2 .result) (outOfAskRange now (k .0 .0)) (outOfAskRange now (k .0 .1 .0)) (c .if1 .taken)
+    (tested₁ w32 (outOfAskRange now) (f .out-of-ask-range2 .result) (k .0 .0) (f .out-of-ask-range2 .ensures) (search needs))
+    ∙ sym (ap (badWhen now) (k .1))
+
+returns-3 : tie.Need-returns-3
+returns-3 c =
+    let l = c .before in
+    let f = l .before in
+    let k = f .before .before .when2 .given in
+    let now = nowOf (f .before .before .before .before .args .store .now) in
+    otherwise (f .out-of-ask-range2 .result) (c .out-of-ask-range3 .result) (outOfAskRange now (k .0 .0)) (outOfAskRange now (k .0 .1 .0)) (l .if1 .left)
+    (tested₁ w32 (outOfAskRange now) (f .out-of-ask-range2 .result) (k .0 .0) (f .out-of-ask-range2 .ensures) (search needs))
+    (tested₁ w32 (outOfAskRange now) (c .out-of-ask-range3 .result) (k .0 .1 .0) (c .out-of-ask-range3 .ensures) (search needs))
+    ∙ sym (ap (badWhen now) (k .1))
 
 pub bad-ask-time-spec : {M : Type 1} → statement M
 bad-ask-time-spec =
     tie.close
     (tie.spec
-    is-time-requires
+    enum-known-when
+    out-of-ask-range-requires
+    enum-known-when-2
+    out-of-ask-range-requires-2
+    out-of-ask-range-requires-3
     returns
-    now-of-requires
-    wide-time-requires
-    is-near-requires
-    returns-2)
+    returns-2
+    returns-3)

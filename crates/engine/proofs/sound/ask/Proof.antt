@@ -5,9 +5,12 @@ use borrow.Author.Needs.{needs}
 use lib.ListN.{length}
 use Rattle.asking.specs.Asking.{idsNeeded, askSettled, GivesList}
 use Rattle.records.specs.Words.{words, timeIn}
+use Rattle.ledger.specs.Refusals.{askNumberChecks}
 use Rattle.ledger.specs.declared.Verdict.{Verdict}
+use Rattle.ledger.proofs.RefusalsLaws.{failed-before, passed-before}
+use Rattle.asking.specs.Counted.{roomChecks}
 use Rattle.engine.specs.Index.{askOut}
-use Rattle.engine.proofs.ChecksLaws.{sound-store, sound-lent, ask-passed, ask-failed, room-left}
+use Rattle.engine.proofs.ChecksLaws.{sound-store, sound-lent, ask-passed}
 use Rattle.engine.proofs.GivesLaws.{list-refused}
 use Rattle.engine.proofs.sound.ask.Statement.{statement}
 use Rattle.engine.proofs.sound.ask.Tie as tie
@@ -36,7 +39,8 @@ returns c =
     let b = v .before .before in
     let a = b .args in
     let w = words (a .store .now) (a .table .now) in
-    let failed = ask-failed (timeIn w) (a .ask) (length (a .list .now)) (idsNeeded w (a .ask)) (k .why .given .0 .0) (sym (v .ask-verdict .ensures) ∙ k .why .given .1) in
+    let room = roomChecks (length (a .list .now)) (idsNeeded w (a .ask)) in
+    let failed = failed-before (askNumberChecks (timeIn w) (a .ask)) room (k .why .given .0 .0) (sym (v .ask-verdict .ensures) ∙ k .why .given .1) in
     list-refused _ (k .why .given .0 .0) w (a .ask) (a .list .now) (sym (sound-lent w (b .pre) _) ∙ failed)
 
 same-length : tie.Need-same-length
@@ -51,8 +55,10 @@ returns-2 c =
     let b = v .before .before in
     let a = b .args in
     let w = words (a .store .now) (a .table .now) in
-    let can = ask-passed w (b .pre) (a .ask) (sym (v .ask-verdict .ensures) ∙ k .enum-told .given .1) in
-    let same = room-left (timeIn w) (a .ask) (length (a .list .now)) (idsNeeded w (a .ask)) (can .good-time) (can .good-numbers) ∙ sound-lent w (b .pre) _ in
+    let room = roomChecks (length (a .list .now)) (idsNeeded w (a .ask)) in
+    let same =
+    passed-before (askNumberChecks (timeIn w) (a .ask)) room (sym (v .ask-verdict .ensures) ∙ k .enum-told .given .1)
+    ∙ sound-lent w (b .pre) _ in
     subst (λ (x : Verdict). GivesList (askSettled x w (a .ask) (a .list .now)) (m .ask-sound .result) (m .ask-sound .last .1 .1 .0)) same (m .ask-sound .ensures)
 
 pub ask-spec : {M : Type 1} → statement M

@@ -27,6 +27,9 @@ element-copy-out-t22 c = search needs
 ask-of-requires : tie.Need-ask-of-requires
 ask-of-requires c κs = search needs
 
+window-of-requires : tie.Need-window-of-requires
+window-of-requires c κs = search needs
+
 returns : tie.Need-returns
 unfolding callOf
 returns c = rw (c .before .match .keys1) (search needs)
@@ -53,12 +56,17 @@ returns-6 c = rw (c .before .match .keys6, c .ask-of .ensures)
 
 returns-7 : tie.Need-returns-7
 unfolding callOf
-returns-7 c =
+returns-7 c = rw (c .before .match .keys7, c .window-of .ensures)
+
+returns-8 : tie.Need-returns-8
+unfolding callOf
+returns-8 c =
     let r = c .match .rest in
-    simp (ne-eqb _ _ (r .0 .0 .0 .0 .0 .1), ne-eqb _ _ (r .0 .0 .0 .0 .1), ne-eqb _ _ (r .0 .0 .0 .1), ne-eqb _ _ (r .0 .0 .1), ne-eqb _ _ (r .0 .1), ne-eqb _ _ (r .1))
+    simp (ne-eqb _ _ (r .0 .0 .0 .0 .0 .0 .1), ne-eqb _ _ (r .0 .0 .0 .0 .0 .1), ne-eqb _ _ (r .0 .0 .0 .0 .1))
+    (simp (ne-eqb _ _ (r .0 .0 .0 .1), ne-eqb _ _ (r .0 .0 .1), ne-eqb _ _ (r .0 .1), ne-eqb _ _ (r .1)))
 
 pub call-of-spec : {M : Type 1} → statement M
 call-of-spec =
     tie.close
     (tie.spec element-copy-out-t6 element-copy-out-t9 report-of-requires report-of-requires-2 element-copy-out-t19 element-copy-out-t22
-    ask-of-requires returns returns-2 returns-3 returns-4 returns-5 returns-6 returns-7)
+    ask-of-requires window-of-requires returns returns-2 returns-3 returns-4 returns-5 returns-6 returns-7 returns-8)

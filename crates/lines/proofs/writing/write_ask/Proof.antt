@@ -1,50 +1,39 @@
--- `lines::writing::write_ask` meets its contract: its line is a letter and six numbers.
+-- `lines::writing::write_ask` meets its contract: a case for each kind of query.
 -- Assumes nothing.
-use mathlib.Core.Path.{_≡_, sym, subst}
-use mathlib.Core.List.{List, [], _∷_}
-use Prim.Native.Char.{code}
-use denote.Ref.{now}
-use lib.IntN.{ℤ}
-use mir.Syntax.{w32}
-use Rattle.ledger.specs.declared.Ask.{Ask}
-use Rattle.ints.proofs.Machine.{back, held}
-use Rattle.lines.specs.declared.writing.Corners.{Corners}
-use Rattle.lines.specs.Lines.{lineOf, letterOf, askNumbers, numbersOf, callLine, Room, Written}
-use Rattle.fields.proofs.NumbersLaws.{rest-writable}
+use mathlib.Core.Path.{sym, subst}
+use mathlib.Core.List.{_∷_, _++_}
 use borrow.Author.Needs.{needs}
+use denote.Ref.{now}
+use mir.Syntax.{w32}
+use Rattle.ints.proofs.Machine.{held}
+use Rattle.grid.specs.declared.When.{When}
+use Rattle.lines.specs.Lines.{lineOf, letterOf, whenLetter, whenNumbers, rectNumbers, numbersOf, callLine, Room, Written}
 use Rattle.lines.proofs.writing.write_ask.Statement.{statement}
 use Rattle.lines.proofs.writing.write_ask.Tie as tie
 
--- the entry
-abbrev start : tie.After-struct-told3 → tie.Start
-start c = let k = c .before .before .before in k .before .before .before
+enum-known-when : tie.Need-enum-known-when
+enum-known-when c = search needs
 
--- the numbers as they are read back from words
-abbrev words : Ask → Corners → List ℤ
-words ask k =
-    back w32 (ask .method) ∷ back w32 (ask .query .time) ∷ back w32 (k .«low_x») ∷ back w32 (k .«low_y») ∷ back w32 (k .«high_x») ∷ back w32 (k .«high_y») ∷ []
+write-timeslice-requires : tie.Need-write-timeslice-requires
+write-timeslice-requires c κs =
+    let s = c .before .before .before .before in
+    let a = s .before .before .before in
+    let k = c .before .before .before .when .given in
+    let ask = a .args .ask in
+    simp (held w32 (ask .method) (search needs), held w32 (k .0 .0) (search needs))
+    (subst (λ (w : When). Room (ask .method ∷ whenNumbers w ++ rectNumbers (ask .query .rect)) (now (a .args .out))) (k .1) (a .pre))
 
-are : (c : tie.After-struct-told3) → words (start c .args .ask) (c .before .before .before .corners-of .result) ≡ askNumbers (start c .args .ask)
-are c =
-    let ask = start c .args .ask in
-    let k = c .before .before .before .corners-of in
-    simp (held w32 (ask .method) (search needs), held w32 (ask .query .time) (search needs))
-    (simp (held w32 (k .result .«low_x») (search needs), held w32 (k .result .«low_y») (search needs))
-    (simp (held w32 (k .result .«high_x») (search needs), held w32 (k .result .«high_y») (search needs)) (simp (k .ensures))))
+enum-known-when-2 : tie.Need-enum-known-when-2
+enum-known-when-2 c = search needs
 
-corners-of-requires : tie.Need-corners-of-requires
-corners-of-requires c κs =
-    let a = c .before .before in
-    rest-writable _ _ (rest-writable _ _ (a .pre .writable))
-
-slice-aggregate-write-line : tie.Need-slice-aggregate-write-line
-slice-aggregate-write-line c = search needs
-
-write-line-requires : tie.Need-write-line-requires
-write-line-requires c κs =
-    let t = c .before .before in
-    let a = start t in
-    subst (λ (ns : List ℤ). Room ns (now (a .args .out))) (sym (are t)) (a .pre)
+write-window-requires : tie.Need-write-window-requires
+write-window-requires c κs =
+    let s = c .before .before .before .before in
+    let a = s .before .before .before in
+    let k = c .before .before .before .when2 .given in
+    let ask = a .args .ask in
+    simp (held w32 (ask .method) (search needs), held w32 (k .0 .0) (search needs), held w32 (k .0 .1 .0) (search needs))
+    (subst (λ (w : When). Room (ask .method ∷ whenNumbers w ++ rectNumbers (ask .query .rect)) (now (a .args .out))) (k .1) (a .pre))
 
 same-length : tie.Need-same-length
 same-length c = search needs
@@ -52,10 +41,41 @@ same-length c = search needs
 returns : tie.Need-returns
 unfolding callLine letterOf numbersOf
 returns c =
-    let w = c .before .before in
-    let t = w .before .before .before in
-    let a = start t in
-    subst (λ (ns : List ℤ). Written (lineOf (code "Q") ns) (now (a .args .out)) (w .write-line .last .1 .1 .0) (w .write-line .result)) (are t) (w .write-line .ensures)
+    let m = c .before .before in
+    let t = m .before .before .before .before in
+    let a = t .before .before .before .before .args in
+    let k = t .when .given in
+    let ask = a .ask in
+    subst
+    (λ (w : When). Written (lineOf (whenLetter w) (ask .method ∷ whenNumbers w ++ rectNumbers (ask .query .rect))) (now (a .out)) (m .write-timeslice .last .1 .1 .1 .0) (m .write-timeslice .result))
+    (sym (k .1))
+    (simp (held w32 (ask .method) (search needs), held w32 (k .0 .0) (search needs)) at (m .write-timeslice .ensures))
+
+same-length-2 : tie.Need-same-length-2
+same-length-2 c = search needs
+
+returns-2 : tie.Need-returns-2
+unfolding callLine letterOf numbersOf
+returns-2 c =
+    let m = c .before .before in
+    let t = m .before .before .before .before in
+    let a = t .before .before .before .before .args in
+    let k = t .when2 .given in
+    let ask = a .ask in
+    subst
+    (λ (w : When). Written (lineOf (whenLetter w) (ask .method ∷ whenNumbers w ++ rectNumbers (ask .query .rect))) (now (a .out)) (m .write-window .last .1 .1 .1 .1 .0) (m .write-window .result))
+    (sym (k .1))
+    (simp (held w32 (ask .method) (search needs), held w32 (k .0 .0) (search needs), held w32 (k .0 .1 .0) (search needs)) at (m .write-window .ensures))
 
 pub write-ask-spec : {M : Type 1} → statement M
-write-ask-spec = tie.close (tie.spec corners-of-requires slice-aggregate-write-line write-line-requires same-length returns)
+write-ask-spec =
+    tie.close
+    (tie.spec
+    enum-known-when
+    write-timeslice-requires
+    enum-known-when-2
+    write-window-requires
+    same-length
+    returns
+    same-length-2
+    returns-2)
