@@ -1,7 +1,6 @@
 -- What a timeslice and a cell reach at the speeds of a row: document 01, "The four ways to choose cells", the two rules "per axis" and the block
 -- of a rectangle; and what a window and a cell reach: document 02, A3, the smallest around what they reach at both its times. Positions are
--- centimetres, speeds centimetres per second; d, and the first and last of a
--- window, are an asked time less a reference time, in seconds.
+-- centimetres, speeds centimetres per second; d, and the first and last of a window, are an asked time less a reference time, in seconds.
 -- Assumes nothing.
 use mathlib.Core.Bool.{Bool, _&&_}
 use mathlib.Core.List.{List, [], _∷_, _++_}
