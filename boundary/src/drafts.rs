@@ -119,15 +119,17 @@ impl Draft {
             _ => any,
         };
         let row = &mut self.rows[key];
-        let span = &mut row[dice.below(2)];
+        let axis = dice.below(2);
         let top = TOP_SPEED as i16;
         match dice.range(0, 5) {
             0 => *row = EMPTY,
-            1 => *span = EMPTY[0],
-            2 => *span = [3, -3],
-            3 => span[0] = dice.pick(&[-top - 1, -top, i16::MIN]),
-            4 => span[1] = dice.pick(&[top + 1, top, i16::MAX]),
-            _ => span[1] = span[0],
+            // Empty on one axis, also where it was on both: where no float is held, no
+            // speed is a second flaw.
+            1 => (row[axis], row[1 - axis]) = (EMPTY[axis], [-3, 3]),
+            2 => row[axis] = [3, -3],
+            3 => row[axis][0] = dice.pick(&[-top - 1, -top, i16::MIN]),
+            4 => row[axis][1] = dice.pick(&[top + 1, top, i16::MAX]),
+            _ => row[axis][1] = row[axis][0],
         }
     }
 }

@@ -135,17 +135,63 @@ fn asked(dice: &mut Dice, now: i64) -> i64 {
 }
 
 /// The numbers after the method of an ask (`Q`) or a window ask (`W`), all in range.
+/// Some go by the time of a report, where one of a few floats has reported late
+/// enough to be asked about.
 pub fn ask(
     dice: &mut Dice,
     now: i64,
     letter: u8,
     float: impl Fn(&mut Dice) -> Option<Report>,
 ) -> Vec<i64> {
+    let draws = if dice.chance(250) { 5 } else { 0 };
+    let mut drawn = (0..draws).filter_map(|_| float(dice));
+    if let Some(float) = drawn.find(|float| askable(now)[0] <= float.t) {
+        return at_report(dice, now, letter, &float);
+    }
     let float = float(dice);
     match letter {
         b'W' => window(dice, now, float),
         _ => timeslice(dice, now, float),
     }
+}
+
+/// An ask about the time at which the float reported. Many rectangles have the
+/// reported position on an edge, most of these behind the float; others lie where
+/// it goes in the second before its report or after it, or would have been before.
+fn at_report(dice: &mut Dice, now: i64, letter: u8, float: &Report) -> Vec<i64> {
+    let times = match letter {
+        b'W' => window_at(dice, now, float.t).to_vec(),
+        _ => vec![time_at(dice, now, float.t)],
+    };
+    let ahead = [0; 2].map(|_| dice.chance(250));
+    let second = float.t - dice.range(0, 1);
+    let time = dice.pick(&times);
+    let corners = match dice.range(0, 9) {
+        0..=3 => met(dice, float, float.t, ahead),
+        4..=5 if letter == b'W' => crossed(dice, float, second),
+        _ => corners(dice, Some(float.position(time))),
+    };
+    [&times, &corners[..]].concat()
+}
+
+/// This time, a second before or after it, or any time before it.
+fn time_at(dice: &mut Dice, now: i64, time: i64) -> i64 {
+    let [earliest, latest] = askable(now);
+    let before = dice.range(earliest, time.max(earliest));
+    let near = time + dice.range(-1, 1);
+    dice.pick(&[near, near, near, before]).clamp(earliest, latest)
+}
+
+/// A window that ends or begins at this time or a second from it, or one about it.
+fn window_at(dice: &mut Dice, now: i64, time: i64) -> [i64; 2] {
+    let [earliest, latest] = askable(now);
+    let any = dice.range(0, LONGEST_WINDOW);
+    let length = dice.pick(&[any, any, 0, 1, 2, 60, LONGEST_WINDOW]);
+    let near = time + dice.range(-1, 1);
+    let some = dice.range(0, length);
+    let before = dice.pick(&[0, some, length]);
+    let first = (near - before).clamp(earliest, latest);
+    [first, (near - before + length).clamp(first, latest)]
 }
 
 /// Many rectangles lie about the place that the float has then.
@@ -194,12 +240,18 @@ fn in_sea(spans: [(i64, i64); 2]) -> [i64; 4] {
 /// A rectangle of which the float passes one corner at this time, through it or a
 /// centimetre beside it: on one axis it lies ahead, on the other behind.
 fn touched(dice: &mut Dice, float: &Report, time: i64) -> [i64; 4] {
+    let x_ahead = dice.chance(500);
+    met(dice, float, time, [x_ahead, !x_ahead])
+}
+
+/// A rectangle with the float on its corner at this time, or a centimetre beside
+/// it, that lies ahead of the float or behind it on either axis.
+fn met(dice: &mut Dice, float: &Report, time: i64, ahead: [bool; 2]) -> [i64; 4] {
     let at = float.position(time);
-    let ahead = dice.below(2);
     in_sea([0, 1].map(|axis| {
         let edge = at[axis] + dice.pick(&[-1, 0, 0, 0, 1]);
         let side = dice.pick(&[0, 1, 700, WIDTH]);
-        match (float.speed[axis] >= 0) == (axis == ahead) {
+        match (float.speed[axis] >= 0) == ahead[axis] {
             true => (edge, edge + side),
             false => (edge - side, edge),
         }

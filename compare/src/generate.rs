@@ -365,7 +365,7 @@ impl Maker {
     /// The full store and the one float too many.
     fn fill_up(&mut self) {
         self.settle(MOST_HELD - 1);
-        for _ in 0..4 {
+        for _ in 0..8 {
             self.settle(MOST_HELD);
             let ids: Vec<i64> = self.mirror.ledger().reports().map(|r| r.id).collect();
             let free = (1..=LAST_ID).rfind(|id| !ids.contains(id)).unwrap_or(0);

@@ -120,6 +120,14 @@ fn ask_in_range(ask: &Ask) -> bool {
         && (0..2).all(|axis| low[axis] <= high[axis])
 }
 
+/// Whether an ask lists the float of a held report.
+fn lists(ask: &Ask, report: &Report, wrong: Option<Wrong>) -> bool {
+    match ask.when {
+        When::At(time) => report.is_in_at(&ask.rectangle, time, wrong),
+        When::During { .. } => report.is_in_during(&ask.rectangle, ask.when.ends(), wrong),
+    }
+}
+
 impl Ledger {
     /// The ledger opened at 0.
     pub fn new(wrong: Option<Wrong>) -> Ledger {
@@ -251,26 +259,30 @@ impl Ledger {
         }
     }
 
-    fn lists(&self, ask: &Ask, report: &Report) -> bool {
-        match ask.when {
-            When::At(time) => ask.rectangle.holds(report.position(time)),
-            When::During { .. } => report.is_in_during(&ask.rectangle, ask.when.ends(), self.wrong),
-        }
-    }
-
-    fn ask(&self, ask: &Ask) -> Result<Answer, i64> {
-        self.check_ask(ask)?;
+    /// The ids that an ask lists, and how many cells their floats are placed in.
+    fn list(&self, ask: &Ask) -> (Vec<i64>, usize) {
         let mut ids = Vec::new();
         let mut seen = [[false; CELLS]; SLOTS];
         let mut useful = 0;
         for held in self.held.values() {
-            if self.lists(ask, &held.report) {
-                ids.push(held.report.id);
+            let listed = lists(ask, &held.report, self.wrong);
+            let counts = match self.wrong {
+                Some(Wrong::UsefulBefore) => lists(ask, &held.report, Some(Wrong::JudgedByNow)),
+                _ => listed,
+            };
+            ids.extend(listed.then_some(held.report.id));
+            if counts {
                 let seen = &mut seen[slot(held.phase)][held.cell];
                 useful += usize::from(!*seen);
                 *seen = true;
             }
         }
+        (ids, useful)
+    }
+
+    fn ask(&self, ask: &Ask) -> Result<Answer, i64> {
+        self.check_ask(ask)?;
+        let (ids, useful) = self.list(ask);
         let (mut cells, mut rounds) = (0, 0);
         let three = live(self.now / PHASE).count() == SLOTS;
         let skipped = three && self.wrong == Some(Wrong::SkippedPhase);

@@ -36,6 +36,18 @@ crate::listed! {
         LongWindow,
         /// A window's length is looked at after its other numbers.
         LateWindow,
+        /// The moment of a report does not count, only those after it.
+        ReportLeftOut,
+        /// A float that reported by a window's last time is looked for from the
+        /// first time on.
+        FromFirst,
+        /// A window lists only floats that reported by its first time.
+        ReportByFirst,
+        /// A report counts for every time, as long as it is not after now.
+        JudgedByNow,
+        /// A cell is useful also by a float that is in the rectangle before its
+        /// report alone.
+        UsefulBefore,
     }
 }
 

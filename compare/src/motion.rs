@@ -1,12 +1,14 @@
 //! What a float reports, where it is at a time, and whether it is in a rectangle
-//! at a moment of a window.
+//! at a time or at a moment of a window.
 //!
 //! A moment may lie between two seconds. On an axis a float is between two edges
 //! from the moment at which it comes to the one to that at which it comes to the
 //! other, so it is in the rectangle from the later of its entries to the earlier
-//! of its exits.
+//! of its exits. Before its report it may have been aboard ship, so that no
+//! moment before it counts.
 
 use crate::grid::Rectangle;
+use crate::limits::LAST_TIME;
 use crate::methods::Wrong;
 
 /// What a float reported: its id, the time, its position and its speed.
@@ -81,15 +83,36 @@ impl Report {
         [0, 1].map(|axis| self.at[axis] + self.speed[axis] * (s - self.t))
     }
 
-    /// Whether at some moment from the first time to the last the float is in
-    /// the rectangle, on both axes together.
+    /// The moments from the first time to the last that count, if there are any:
+    /// those not before the report.
+    fn counted(&self, [first, last]: [i64; 2], wrong: Option<Wrong>) -> Option<Span> {
+        let (from, latest) = match wrong {
+            Some(Wrong::ReportLeftOut) => (first.max(self.t), last - 1),
+            Some(Wrong::FromFirst) => (first, last),
+            Some(Wrong::ReportByFirst) => (first, first),
+            // What is held was reported by now.
+            Some(Wrong::JudgedByNow) => (first, LAST_TIME),
+            _ => (first.max(self.t), last),
+        };
+        (self.t <= latest).then_some(Span { from: Moment::whole(from), to: Moment::whole(last) })
+    }
+
+    /// Whether that time counts and the float is then in the rectangle.
+    pub fn is_in_at(&self, rectangle: &Rectangle, time: i64, wrong: Option<Wrong>) -> bool {
+        self.counted([time; 2], wrong).is_some() && rectangle.holds(self.position(time))
+    }
+
+    /// Whether at some moment from the first time to the last that counts the
+    /// float is in the rectangle, on both axes together.
     pub fn is_in_during(
         &self,
         rectangle: &Rectangle,
-        [first, last]: [i64; 2],
+        times: [i64; 2],
         wrong: Option<Wrong>,
     ) -> bool {
-        let window = Span { from: Moment::whole(first), to: Moment::whole(last) };
+        let Some(window) = self.counted(times, wrong) else {
+            return false;
+        };
         let on = |axis, within| self.between(axis, rectangle, within, wrong);
         let both = match wrong {
             Some(Wrong::OwnMoments) => on(0, window).and(on(1, window)),
@@ -97,7 +120,8 @@ impl Report {
         };
         both.is_some_and(|both| match wrong {
             Some(Wrong::WholeSeconds) => both.has_whole_second(),
-            Some(Wrong::TouchLeftOut) => first == last || !both.is_one_moment(),
+            Some(Wrong::TouchLeftOut) => times[0] == times[1] || !both.is_one_moment(),
+            Some(Wrong::ReportLeftOut) => !both.to.is_by(Moment::whole(self.t)),
             _ => true,
         })
     }

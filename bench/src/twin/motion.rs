@@ -15,7 +15,7 @@ pub trait When: Copy {
     /// The first and the last time.
     fn ends(self) -> [i64; 2];
 
-    /// Whether a float is then in a rectangle.
+    /// Whether a float is then in a rectangle, and not before its report.
     fn lists(self, rect: &Rect, r: &Report) -> bool;
 }
 
@@ -33,7 +33,7 @@ impl When for At {
     }
 
     fn lists(self, rect: &Rect, r: &Report) -> bool {
-        rect.holds(position(r, self.0))
+        i64::from(r.t) <= self.0 && rect.holds(position(r, self.0))
     }
 }
 
@@ -44,10 +44,13 @@ impl When for During {
 
     fn lists(self, rect: &Rect, r: &Report) -> bool {
         let During(first, last) = self;
-        let [x, y] = position(r, first);
+        let from = first.max(r.t.into());
+        let seconds = last - from;
+        let [x, y] = position(r, from);
         let x = Passage::new(x, r.vx.into(), &rect.0[0]);
         let y = Passage::new(y, r.vy.into(), &rect.0[1]);
-        x.has_moment(last - first) && y.has_moment(last - first) && x.meets(&y) && y.meets(&x)
+        let on_each = x.has_moment(seconds) && y.has_moment(seconds);
+        0 <= seconds && on_each && x.meets(&y) && y.meets(&x)
     }
 }
 

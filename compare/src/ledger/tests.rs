@@ -1,6 +1,6 @@
 //! The ledger against document 01's listing, P cases and table of refusals,
-//! against worked window asks, and against its own definitions on generated
-//! lists.
+//! against worked asks for windows and for the time before a report, and against
+//! its own definitions on generated lists.
 
 use super::*;
 use crate::generate::lists;
@@ -152,6 +152,56 @@ fn a_window_of_one_time_and_one_of_an_hour() {
             let ask = window(method, times, [1_400_000, 0], [1_600_000, 1_000]);
             let got = listed(&mut ledger, ask);
             assert_eq!((got.0, got.1), (ids, cells));
+        }
+    }
+}
+
+/// A ledger with float 7 at (10000, 10000), eastward by 10, reported at 100.
+fn reported_at_100() -> Ledger {
+    let mut ledger = open(0);
+    let call = Call::Add(report(7, 100, [10_000; 2], [10, 0]));
+    assert_eq!(ledger.call(&call, 0), Answer::Accepted(1));
+    ledger
+}
+
+/// By each method the ask lists these ids and reads the one cell.
+fn lists_by_every_method(ledger: &mut Ledger, when: When, x: [i64; 2], ids: &[i64]) {
+    let rectangle = Rectangle { low: [x[0], 0], high: [x[1], 20_000] };
+    for (method, rounds) in [(0, 0), (1, 0), (2, 1), (3, 0)] {
+        let wanted = (ids.to_vec(), 1, ids.len(), rounds);
+        let ask = Ask { method, when, rectangle };
+        assert_eq!(listed(ledger, ask), wanted, "{ask:?}");
+    }
+}
+
+#[test]
+fn no_float_before_its_report() {
+    let mut ledger = reported_at_100();
+    let whole = [0, 20_000];
+    for (time, ids) in [(0, &[][..]), (99, &[]), (100, &[7]), (101, &[7])] {
+        lists_by_every_method(&mut ledger, When::At(time), whole, ids);
+    }
+    for (last, ids) in [(0, &[][..]), (99, &[]), (100, &[7]), (200, &[7])] {
+        lists_by_every_method(&mut ledger, When::During { first: 0, last }, whole, ids);
+    }
+    // Up to 9,999 it has come before its report alone, to 10,000 at its report.
+    for (high, ids) in [(9_999, &[][..]), (10_000, &[7])] {
+        let when = When::During { first: 0, last: 200 };
+        lists_by_every_method(&mut ledger, when, [9_000, high], ids);
+    }
+}
+
+#[test]
+fn a_new_report_ends_what_the_old_one_said() {
+    let mut ledger = reported_at_100();
+    ledger.call(&Call::Report(report(7, 200, [10_000; 2], [10, 0])), 0);
+    // It was held then, by a report that is gone; later clocks change nothing.
+    for now in [200, 3_000] {
+        ledger.call(&Call::Clock { t: now }, 0);
+        for (time, ids) in [(100, &[][..]), (199, &[]), (200, &[7])] {
+            lists_by_every_method(&mut ledger, When::At(time), [0, 20_000], ids);
+            let when = When::During { first: 100, last: time };
+            lists_by_every_method(&mut ledger, when, [0, 20_000], ids);
         }
     }
 }

@@ -42,7 +42,7 @@ use Rattle.asking.proofs.AskingPhasesLaws.{FitAsk, fit-ask, phaseOfReco
 
 -- ---- the ids inside
 
-inside-is : (query : Query) (rs : List Record) → idsInside query rs ≡ inOrder (map idOf (passing (isInside query) rs))
+pub inside-is : (query : Query) (rs : List Record) → idsInside query rs ≡ inOrder (map idOf (passing (isInside query) rs))
 unfolding idsInside inOrder passing
 inside-is query [] = refl
 inside-is query (r ∷ rs) = go (isInside query r) (inside-is query rs)

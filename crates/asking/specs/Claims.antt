@@ -21,7 +21,8 @@ idsInside query [] = []
 idsInside query (r ∷ rs) =
     cond (isListed query (r .report)) (putInOrder (up (r .report .id)) (idsInside query rs)) (idsInside query rs)
 
--- S3, A3: the ids that an accepted ask writes are those of all held records that its query lists: inside at its time, or at some moment of its window
+-- S3, A3, A4: the ids that an accepted ask writes are those of all held records that its query lists: inside at its time, or at some moment of its
+-- window, and not before the report
 abbrev pub ListIsExact : Type 0
 ListIsExact =
     (w : Words)

@@ -121,7 +121,8 @@ pub extern "C" fn float_index_drop(store: &mut [i32], table: &mut [i16], id: i32
     reply_of(engine::drop(store, table, id, t))
 }
 
-// The floats predicted inside a rectangle at the asked time, by a method's choice of cells. The ids are written in front of the list.
+// The floats predicted inside a rectangle at the asked time, none before its report, by a method's choice of cells. The ids are written in front of
+// the list.
 #[no_mangle]
 pub extern "C" fn float_index_ask(
     store: &[i32],
@@ -144,7 +145,7 @@ pub extern "C" fn float_index_ask(
     ))
 }
 
-// The same at some moment from a first time to a last one, fractions of a second included.
+// The same at some moment from a first time to a last one, fractions of a second included, and for each float from its report on.
 #[no_mangle]
 pub extern "C" fn float_index_ask_window(
     store: &[i32],

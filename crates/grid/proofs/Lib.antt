@@ -8,3 +8,4 @@ pub mod SmallLaws
 pub mod MomentsCoreLaws
 pub mod MomentsOneTimeLaws
 pub mod MomentsLaws
+pub mod MomentsCountedLaws

@@ -1,4 +1,5 @@
--- When a float is in a rectangle at some moment of a window: document 02, A3. Positions are centimetres, speeds centimetres per second, times seconds.
+-- When a float is in a rectangle at some moment of a window, and which moments count: document 02, A3 and A4. Positions are centimetres, speeds
+-- centimetres per second, times seconds.
 -- Assumes nothing.
 use mathlib.Core.Path.{_≡_}
 use mathlib.Core.Bool.{Bool, true, _&&_}
@@ -44,6 +45,11 @@ pub record SomeMoment (from last : ℤ) (a b : Axis) : Type 0 where
   pub not-after : leZ n (last *ℤ pos m) ≡ true
   pub inside-x : insideThen a n m ≡ true
   pub inside-y : insideThen b n m ≡ true
+
+-- such a moment of a window, not before the float's report: a window counts no other (document 02, A4)
+pub record CountedMoment (first last : ℤ) (q : Rect) (r : Report) : Type 0 where
+  pub some : SomeMoment first last (alongX q r) (alongY q r)
+  pub reported : leZ (r .t *ℤ pos (some .m)) (some .n) ≡ true
 
 -- ---- what is tested: the ledger's rule and the code's. proofs/MomentsLaws says that it holds exactly where there is such a moment
 

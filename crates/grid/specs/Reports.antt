@@ -1,9 +1,10 @@
--- A float's report, where it says that the float is, and when a query lists it: document 01, "Units and the places on the grid", and document 02, A3, for
--- windows. Positions are centimetres, speeds centimetres per second, times seconds.
+-- A float's report, where it says that the float is, and when a query lists it: document 01, "Units and the places on the grid", and document 02, A3 for
+-- windows and A4 for reports that come later. Positions are centimetres, speeds centimetres per second, times seconds.
 -- Assumes nothing.
 use mathlib.Core.Bool.{Bool, _&&_}
 use lib.IntN.{ℤ, pos, negℤ, _-ℤ_}
-use Rattle.ints.specs.Whole.{between}
+use lib.Signed.{leZ}
+use Rattle.ints.specs.Whole.{between, maxZ}
 use Rattle.grid.specs.Units.{lastPosition, speedLimit, lastTime, lastId}
 use Rattle.grid.specs.Places.{positionAfter, cellOf}
 use Rattle.grid.specs.Moments.{insideDuring}
@@ -66,11 +67,16 @@ inRect q x y = between (q .x .low) (q .x .high) x && between (q .y .low) (q .y .
 unfoldable pub insideAt : Rect → ℤ → Report → Bool
 insideAt q t r = inRect q (xAt r t) (yAt r t)
 
--- whether a query lists a float: a timeslice, where the float's position at the time is in the rectangle; a window, where the float is in the rectangle
--- at some moment of it
+-- by the kind of query: at the time of a timeslice; at some moment of a window, from the report on
 abbrev pub insideWhen : Rect → When → Report → Bool
 insideWhen q (At t) r = insideAt q t r
-insideWhen q (During first last) r = insideDuring q first last r
+insideWhen q (During first last) r = insideDuring q (maxZ first (r .t)) last r
 
+-- the last time that a query asks about
+abbrev pub lastOf : When → ℤ
+lastOf (At t) = t
+lastOf (During first last) = last
+
+-- whether a query lists a float: where its report is not after that time (document 02, A4), and it is inside
 unfoldable pub isListed : Query → Report → Bool
-isListed query r = insideWhen (query .rect) (query .when) r
+isListed query r = leZ (r .t) (lastOf (query .when)) && insideWhen (query .rect) (query .when) r

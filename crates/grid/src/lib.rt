@@ -4,9 +4,9 @@ ghost use mathlib.Core.Path.{_≡_};
 ghost use lib.IntN.{_-ℤ_};
 ghost use Rattle.grid.specs.Places.{positionAfter};
 ghost use Rattle.grid.specs.Moments.{passageOf, insideDuring};
-ghost use Rattle.grid.specs.Reports.{rectOf, xAt, yAt, cellAtTime, inRect, insideAt, isListed};
+ghost use Rattle.grid.specs.Reports.{rectOf, xAt, yAt, cellAtTime, inRect, insideAt, insideWhen, lastOf, isListed};
 ghost use Rattle.grid.specs.Small.{SmallAxis, SmallReport, SmallStartAt, SmallWindow, SmallListing};
-ghost use Rattle.ints.specs.Whole.{between};
+ghost use Rattle.ints.specs.Whole.{between, maxZ};
 use moments::Passage;
 
 mod curve;
@@ -83,6 +83,25 @@ pub struct Report {
     pub y: i32,
     pub vx: i32,
     pub vy: i32,
+}
+
+impl When {
+    // The last time that is asked about.
+    fn last(self) -> i32
+        ensures { λ r. ⌜ r ≡ lastOf self ⌝ }
+    {
+        match self {
+            When::At(time) => time,
+            When::During(_first, last) => last,
+        }
+    }
+}
+
+// The later of two times.
+fn later(a: i32, b: i32) -> i32
+    ensures { λ r. ⌜ r ≡ maxZ a b ⌝ }
+{
+    if a <= b { b } else { a }
 }
 
 // A number of 32 bits in 64.
@@ -184,16 +203,25 @@ impl Report {
         moments::meet(x, y, d)
     }
 
-    // Whether a query lists the float.
-    pub fn is_listed(self, query: Query) -> bool
+    // Whether it is inside, by the kind of query. A window counts its moments from the report on.
+    fn is_inside(self, query: Query) -> bool
         requires { ⌜ SmallListing self query ⌝ }
-        ensures { λ r. ⌜ r ≡ isListed query self ⌝ }
+        ensures { λ r. ⌜ r ≡ insideWhen (query .rect) (query .when) self ⌝ }
     {
         let rect = query.rect;
         let when = query.when;
         match when {
             When::At(time) => self.is_inside_at(rect, time),
-            When::During(first, last) => self.is_inside_during(rect, first, last),
+            When::During(first, last) => self.is_inside_during(rect, later(first, self.t), last),
         }
+    }
+
+    // Whether a query lists the float: none is listed before its report.
+    pub fn is_listed(self, query: Query) -> bool
+        requires { ⌜ SmallListing self query ⌝ }
+        ensures { λ r. ⌜ r ≡ isListed query self ⌝ }
+    {
+        let when = query.when;
+        self.t <= when.last() && self.is_inside(query)
     }
 }

@@ -11,6 +11,7 @@ pub mod SoundUseful
 pub mod Asks
 pub mod EveryCall
 pub mod Windows
+pub mod ReportTimes
 pub mod LastingRows
 pub mod Claims
 pub mod Numbers

@@ -16,11 +16,9 @@ use Rattle.ints.specs.Lists.{passing}
 use Rattle.ints.proofs.Parts.{signed, add}
 use Rattle.ints.proofs.Truth.{and-true, and-left}
 use Rattle.grid.specs.Units.{cells, longestWindow}
-use Rattle.grid.specs.Moments.{alongX, alongY, insideDuring}
 use Rattle.grid.specs.Reports.{isListed}
 use Rattle.grid.specs.declared.Rect.{Rect}
-use Rattle.grid.proofs.MomentsLaws.{inside-at-some-moment}
-use Rattle.grid.proofs.MomentsOneTimeLaws.{one-time}
+use Rattle.grid.proofs.MomentsCountedLaws.{lists-counted-moments, one-time-listed}
 use Rattle.rows.specs.Phases.{sinceReference, slotOf}
 use Rattle.methods.specs.Aims.{aimIn}
 use Rattle.methods.specs.Methods.{choice}
@@ -53,12 +51,11 @@ use Rattle.history.proofs.EveryCall.{good-ask}
 -- ---- listed exactly
 
 pub window-lists-moments : WindowListsMoments
-unfolding isListed insideDuring
 window-lists-moments rect first last span rectangle r =
     let latest = first +ℤ pos longestWindow in
     let order = rectangle-ordered rect rectangle in
     let in-order = and-left (leZ first last) (leZ last latest) (not-false (between first latest last) span) in
-    inside-at-some-moment first last in-order (alongX rect r) (alongY rect r) (order .x-ordered) (order .y-ordered)
+    lists-counted-moments rect (order .x-ordered) (order .y-ordered) r first last in-order
 
 pub accepted-windows-list-moments : AcceptedWindowsListMoments
 accepted-windows-list-moments w method rect first last list h r =
@@ -82,8 +79,7 @@ module _ (method : ℤ) (rect : Rect) (t : ℤ) where
       λ i. record { expanded = λ r. same .same-expansion r i; meets = λ c r. same .same-meeting c r i }
 
   same-listed : isListed (long .query) ≡ isListed (short .query)
-  unfolding isListed
-  same-listed = λ i r. one-time rect t r i
+  same-listed = λ i r. one-time-listed rect t r i
 
   same-late : (now : ℤ) → (outOfAskRange now t || outOfAskRange now t) ≡ outOfAskRange now t
   same-late now = go (outOfAskRange now t)

@@ -42,7 +42,7 @@ module _ (w : Words) (ask : Ask) (list : List ℕ) where
   abbrev answerOfAsk : Answer
   answerOfAsk = askOut w ask list .answer
 
-  -- S3: the ids of all held records inside, by rising number, are written in front, and the rest of the list is kept
+  -- S3: the ids of all held records listed, by rising number, are written in front, and the rest of the list is kept
   pub record ListOfAsk (ids : List ℕ) : Type 0 where
     pub accepted-with-room :
         areSound w ≡ true

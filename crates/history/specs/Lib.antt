@@ -2,5 +2,6 @@ pub mod Index
 pub mod EveryCall
 pub mod Claims
 pub mod Windows
+pub mod ReportTimes
 pub mod Points
 pub mod Examples

@@ -1,5 +1,5 @@
--- What is claimed of window asks alone, beside the claims on every ask: document 02, A3. Over every store and table of every length, reached by calls
--- or not.
+-- What is claimed of window asks alone, beside the claims on every ask: document 02, A3, and A4 for the moments that count. Over every store and table of
+-- every length, reached by calls or not.
 -- Assumes nothing.
 use mathlib.Core.Path.{_≡_}
 use mathlib.Core.Bool.{true, false}
@@ -7,7 +7,7 @@ use mathlib.Core.List.{List}
 use mathlib.Core.Logic.{_↔_}
 use Prim.Native.Nat.{ℕ}
 use lib.IntN.{ℤ}
-use Rattle.grid.specs.Moments.{alongX, alongY, SomeMoment}
+use Rattle.grid.specs.Moments.{CountedMoment}
 use Rattle.grid.specs.Reports.{isListed}
 use Rattle.grid.specs.declared.Rect.{Rect}
 use Rattle.grid.specs.declared.Report.{Report}
@@ -31,15 +31,15 @@ abbrev pub window : ℤ → Rect → ℤ → ℤ → Ask
 window method rect first last = askBy method (record { rect = rect; when = During first last })
 
 -- listed exactly: a window whose times pass check 10 and whose rectangle passes check 4 lists a report exactly where there is one moment of it, fractions
--- of a second included, at which the float is in the rectangle on both axes. So of the ledger, of the index, and of the ids needed where the list is too
--- short. Which ids are written is `ListIsWritten`
+-- of a second included, not before the report, at which the float is in the rectangle on both axes. So of the ledger, of the index, and of the ids needed
+-- where the list is too short. Which ids are written is `ListIsWritten`
 abbrev pub WindowListsMoments : Type 0
 WindowListsMoments =
     (rect : Rect) (first last : ℤ)
     → badSpan (During first last) ≡ false
     → isRectangle rect ≡ true
     → (r : Report)
-    → (isListed (record { rect = rect; when = During first last }) r ≡ true) ↔ SomeMoment first last (alongX rect r) (alongY rect r)
+    → (isListed (record { rect = rect; when = During first last }) r ≡ true) ↔ CountedMoment first last rect r
 
 -- and so of every accepted window ask
 abbrev pub AcceptedWindowsListMoments : Type 0
@@ -47,7 +47,7 @@ AcceptedWindowsListMoments =
     (w : Words) (method : ℤ) (rect : Rect) (first last : ℤ) (list : List ℕ)
     → isAccepted (askOut w (window method rect first last) list .answer) ≡ true
     → (r : Report)
-    → (isListed (window method rect first last .query) r ≡ true) ↔ SomeMoment first last (alongX rect r) (alongY rect r)
+    → (isListed (window method rect first last .query) r ≡ true) ↔ CountedMoment first last rect r
 
 -- with first equal to last, a window ask gives the timeslice answer: the same answer and the same list, refused or not, and in each phase the same
 -- choice; and so of the ledger

@@ -1,7 +1,7 @@
 -- The lesser and the greater of two whole numbers: their parts, and the laws of a semilattice that joining rows and the smallest around two
 -- ranges rest on.
 -- Assumes nothing.
-use mathlib.Core.Path.{_≡_, refl}
+use mathlib.Core.Path.{_≡_, refl, _∙_}
 use mathlib.Core.Bool.{Bool, true, false, cond, _||_}
 use Prim.Native.Nat.{min, max}
 use native.Mathlib.Omega.{arith}
@@ -66,6 +66,20 @@ min-greatest a b z h k = omega (arith, signed, min-parts a b, one-part a, one-pa
 
 pub max-least : (a b z : ℤ) → leZ a z ≡ true → leZ b z ≡ true → leZ (maxZ a b) z ≡ true
 max-least a b z h k = omega (arith, signed, max-parts a b, one-part a, one-part b, one-part z)
+
+-- the greater is one of the two
+pub max-one-of : (P : ℤ → Type 0) (a b : ℤ) → P a → P b → P (maxZ a b)
+unfolding maxZ
+max-one-of P a b p q = go (leZ a b)
+  where
+    go : (t : Bool) → P (cond t b a)
+    go true = q
+    go false = p
+
+-- and the one that is not below the other
+pub max-below : (a b : ℤ) → leZ b a ≡ true → maxZ a b ≡ a
+unfolding maxZ
+max-below a b h = max-comm a b ∙ rw h
 
 pub le-refl : (a : ℤ) → leZ a a ≡ true
 le-refl a = omega (arith, signed)

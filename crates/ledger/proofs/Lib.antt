@@ -5,3 +5,4 @@ pub mod MachineSummedLaws
 pub mod RefusalsLaws
 pub mod Claims
 pub mod WindowExamples
+pub mod ReportTimeExamples

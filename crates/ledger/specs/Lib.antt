@@ -5,3 +5,4 @@ pub mod Calls
 pub mod Claims
 pub mod Examples
 pub mod WindowExamples
+pub mod ReportTimeExamples

@@ -200,7 +200,7 @@ pub listed-is-read :
     → Reads method rows (aimIn p query) (cellAtTime r (referenceTime p))
 listed-is-read rows valid p query o r h k =
     no-float-is-missed rows valid (aimIn p query) (query-is-fair p query o) (inView (viewOf p query)) (query-sees p query) (placedBy p r) h
-    (sym (listed-inside p query r) ∙ k)
+    (listed-inside p query o r k)
 
 pub optimal-is-exact : OptimalIsExact
 optimal-is-exact rows valid s is c on =

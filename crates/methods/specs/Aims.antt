@@ -53,7 +53,8 @@ aimIn p query = aimOf (viewOf p query)
 
 -- ---- floats
 
--- a float as it is placed in a phase: its position at the reference time, in centimetres, and its speeds, in centimetres per second
+-- a float as it is placed in a phase: its position at the reference time, in centimetres, and its speeds, in centimetres per second. It has no report
+-- time: which cells are read goes by rows
 pub record Placed : Type 0 where
   pub x : ℤ
   pub y : ℤ

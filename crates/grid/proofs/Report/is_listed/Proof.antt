@@ -1,64 +1,34 @@
--- `grid::Report::is_listed` meets its contract: a case for each kind of query.
+-- `grid::Report::is_listed` meets its contract: reported by the last time asked about, and inside.
 -- Assumes nothing.
-use mathlib.Core.Path.{sym, ap, subst, _∙_}
+use mathlib.Core.Path.{_≡_, ap₂}
 use borrow.Author.Needs.{needs}
-use lib.IntN.{ℤ}
+use lib.Signed.{leZ}
 use mir.Syntax.{w32}
-use Rattle.ints.proofs.Machine.{held, tested₁, tested₂}
-use Rattle.grid.specs.Moments.{insideDuring}
-use Rattle.grid.specs.Reports.{insideAt, insideWhen, isListed}
-use Rattle.grid.specs.Small.{SmallTimes}
-use Rattle.grid.specs.declared.When.{When}
-use Rattle.grid.proofs.SmallLaws.{small-at}
+use Rattle.ints.proofs.Machine.{back, held, got, both, neither}
+use Rattle.grid.specs.Reports.{lastOf, isListed}
 use Rattle.grid.proofs.Report.is_listed.Statement.{statement}
 use Rattle.grid.proofs.Report.is_listed.Tie as tie
 
-enum-known-when : tie.Need-enum-known-when
-enum-known-when c = search needs
+last-requires : tie.Need-last-requires
+last-requires c κs = search needs
 
-is-inside-at-requires : tie.Need-is-inside-at-requires
-is-inside-at-requires c κs =
-    let k = c .before .when .given in
-    let pre = c .before .before .before .before .pre in
-    simp (held w32 (k .0 .0) (search needs)) (small-at (pre .figures) (subst SmallTimes (k .1) (pre .small-query .times)))
+is-inside-requires : tie.Need-is-inside-requires
+is-inside-requires c κs = search needs
 
-enum-known-when-2 : tie.Need-enum-known-when-2
-enum-known-when-2 c = search needs
-
-is-inside-during-requires : tie.Need-is-inside-during-requires
-is-inside-during-requires c κs =
-    let k = c .before .when2 .given in
-    let pre = c .before .before .before .before .pre in
-    let t = subst SmallTimes (k .1) (pre .small-query .times) in
-    simp (held w32 (k .0 .0) (search needs), held w32 (k .0 .1 .0) (search needs))
-    (record { figures = pre .figures; rect = pre .small-query .rect; small-first = t .0; small-last = t .1 })
+-- the test of the report's time is that of the definition
+module _ (c : tie.After-last) where
+  reported-is :
+      leZ (back w32 (c .before .args .self .t)) (back w32 (c .last .result))
+      ≡ leZ (c .before .args .self .t) (lastOf (c .before .args .query .when))
+  reported-is = ap₂ leZ (held w32 (c .before .args .self .t) (search needs)) (got w32 (c .last .result) _ (search needs) (c .last .ensures))
 
 returns : tie.Need-returns
 unfolding isListed
-returns c =
-    let m = c .before .before in
-    let k = m .when .given in
-    let a = m .before .before .before .args in
-    tested₁ w32 (λ (t : ℤ). insideAt (a .query .rect) t (a .self)) (c .is-inside-at .result) (k .0 .0) (c .is-inside-at .ensures) (search needs)
-    ∙ sym (ap (λ (w : When). insideWhen (a .query .rect) w (a .self)) (k .1))
+returns c = let l = c .before .before .before .before in both _ (c .is-inside .result) _ _ (c .before .if1 .taken) (reported-is l) (c .is-inside .ensures)
 
 returns-2 : tie.Need-returns-2
 unfolding isListed
-returns-2 c =
-    let m = c .before .before in
-    let k = m .when2 .given in
-    let a = m .before .before .before .args in
-    let r = c .is-inside-during in
-    tested₂ w32 (λ (f l : ℤ). insideDuring (a .query .rect) f l (a .self)) (r .result) (k .0 .0) (k .0 .1 .0) (r .ensures) (search needs) (search needs)
-    ∙ sym (ap (λ (w : When). insideWhen (a .query .rect) w (a .self)) (k .1))
+returns-2 c = let l = c .before .before .before in neither _ _ _ (c .if1 .left) (reported-is l)
 
 pub is-listed-spec : {M : Type 1} → statement M
-is-listed-spec =
-    tie.close
-    (tie.spec
-    enum-known-when
-    is-inside-at-requires
-    enum-known-when-2
-    is-inside-during-requires
-    returns
-    returns-2)
+is-listed-spec = tie.close (tie.spec last-requires is-inside-requires returns returns-2)
