@@ -19,7 +19,7 @@ fn is_in_at_moment(report: &Report, rectangle: &Rectangle, n: i64, m: i64) -> bo
 fn windows_by_every_moment() {
     let mut dice = Dice::new(3);
     let (mut inside, mut too_early, mut at_report) = (0, 0, 0);
-    for _ in 0..100_000 {
+    for _ in 0..200_000 {
         let mut pair = |low, high| [0; 2].map(|_| dice.range(low, high));
         let (at, speed, low, sides) = (pair(-6, 6), pair(-5, 5), pair(-6, 6), pair(0, 4));
         let ([first, _], [length, _], [after, _]) = (pair(-2, 2), pair(0, 4), pair(-2, 5));
@@ -36,7 +36,7 @@ fn windows_by_every_moment() {
         too_early += usize::from(!got && during(Some(Wrong::JudgedByNow)));
         at_report += usize::from(got && !during(Some(Wrong::ReportLeftOut)));
     }
-    for count in [inside, too_early, at_report] {
-        assert!((1_000..95_000).contains(&count), "{inside} {too_early} {at_report}");
+    for (count, least) in [(inside, 5_000), (too_early, 1_000), (at_report, 1_000)] {
+        assert!((least..195_000).contains(&count), "{inside} {too_early} {at_report}");
     }
 }

@@ -12,7 +12,7 @@ use lib.IntN.{ℤ, pos, _*ℤ_}
 use lib.Signed.{leZ}
 use Rattle.ints.specs.Whole.{maxZ}
 use Rattle.ints.proofs.Parts.{up, down, mul-keeps, le-true, true-le}
-use Rattle.ints.proofs.Least.{max-above, max-least, max-one-of, max-below, le-trans}
+use Rattle.ints.proofs.Least.{max-above, max-least, max-one-of, max-first, le-trans}
 use Rattle.ints.proofs.Truth.{and-true, and-left, and-right}
 use Rattle.grid.specs.Moments.{Axis, alongX, alongY, SomeMoment, CountedMoment, insideDuring}
 use Rattle.grid.specs.Reports.{insideAt, isListed}
@@ -106,4 +106,4 @@ one-time-listed q t r = go (leZ (r .t) t) refl
   where
     go : (b : Bool) → leZ (r .t) t ≡ b → b && insideDuring q (maxZ t (r .t)) t r ≡ b && insideAt q t r
     go false e = refl
-    go true e = ap (λ (from : ℤ). insideDuring q from t r) (max-below t (r .t) e) ∙ one-time q t r
+    go true e = ap (λ (from : ℤ). insideDuring q from t r) (max-first t (r .t) e) ∙ one-time q t r

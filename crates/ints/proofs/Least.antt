@@ -76,10 +76,10 @@ max-one-of P a b p q = go (leZ a b)
     go true = q
     go false = p
 
--- and the one that is not below the other
-pub max-below : (a b : ℤ) → leZ b a ≡ true → maxZ a b ≡ a
+-- the first where the second is not above it
+pub max-first : (a b : ℤ) → leZ b a ≡ true → maxZ a b ≡ a
 unfolding maxZ
-max-below a b h = max-comm a b ∙ rw h
+max-first a b h = max-comm a b ∙ rw h
 
 pub le-refl : (a : ℤ) → leZ a a ≡ true
 le-refl a = omega (arith, signed)
