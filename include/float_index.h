@@ -118,8 +118,8 @@ float_index_reply float_index_drop(int32_t *store, size_t store_words, int16_t *
 /* The held floats predicted inside a rectangle at the asked time, edges
  * included. A float whose report time is after the asked time is not among them.
  * Their ids are written in front of the list by rising number, and the rest of
- * it is kept. A list of any length will do where the ids needed fit; an
- * empty one where none is needed. Store and table are only read. */
+ * it is kept. A list of any length will do where the ids needed fit; an empty
+ * one where none is needed. Store and table are only read. */
 float_index_reply float_index_ask(const int32_t *store, size_t store_words, const int16_t *table,
                                   size_t table_numbers, uint16_t *list, size_t list_ids,
                                   int32_t method, int32_t asked, int32_t low_x, int32_t low_y,
@@ -128,8 +128,8 @@ float_index_reply float_index_ask(const int32_t *store, size_t store_words, cons
 /* The held floats predicted inside a rectangle at some moment from the first time
  * to the last, on both axes at that same moment, edges and fractions of a second
  * included. For a float that reported after the first time only the moments from
- * its report on count. With first equal to last it is float_index_ask at that time. All
- * else is as there. */
+ * its report on count. With first equal to last it is float_index_ask at that
+ * time. All else is as there. */
 float_index_reply float_index_ask_window(const int32_t *store, size_t store_words,
                                          const int16_t *table, size_t table_numbers,
                                          uint16_t *list, size_t list_ids, int32_t method,

@@ -196,9 +196,9 @@ pub fn drop(store: &mut [i32], table: &mut [i16], id: i32, t: i32) -> Reply {
 /// The held floats predicted inside the rectangle at the asked time, edges
 /// included. A float whose report time is after the asked time is not among them.
 /// Their ids are written in front of the list by rising number, and the rest of
-/// it is kept; the value is how many they are. A list of any length
-/// will do where the ids needed fit, an empty one where none is needed. Refused
-/// with 1, 2, 3, 4 and 8.
+/// it is kept; the value is how many they are. A list of any length will do
+/// where the ids needed fit, an empty one where none is needed. Refused with 1, 2,
+/// 3, 4 and 8.
 pub fn ask(
     store: &[i32],
     table: &[i16],
@@ -218,8 +218,9 @@ pub fn ask(
 /// The held floats predicted inside the rectangle at some moment from the first
 /// time to the last, on both axes at that same moment, edges and fractions of a
 /// second included. For a float that reported after the first time only the
-/// moments from its report on count. With `first` equal to `last` it is [`ask`] at that time. List
-/// and value are as there. Refused with 1, 2, 3, 10, 4 and 8, in this order.
+/// moments from its report on count. With `first` equal to `last` it is [`ask`]
+/// at that time. List and value are as there. Refused with 1, 2, 3, 10, 4 and 8,
+/// in this order.
 pub fn ask_window(
     store: &[i32],
     table: &[i16],

@@ -33,7 +33,7 @@ pub record Test (d : ℕ) (p q : Crossing) : Type 0 where
 
 -- ---- a moment passes the test: its m is cancelled
 
-pub cancel : (x y k : ℕ) → 0 < k → x * k ≤ y * k → x ≤ y
+cancel : (x y k : ℕ) → 0 < k → x * k ≤ y * k → x ≤ y
 cancel x y k h e =
     dite (decLe x y) (λ l. l)
     (λ n. absurd (let g : suc y ≤ x = omega arith in let p = mul-le-mul-right k g in omega arith))

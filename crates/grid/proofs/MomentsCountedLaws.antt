@@ -5,13 +5,10 @@
 use mathlib.Core.Path.{_≡_, refl, _∙_, ap}
 use mathlib.Core.Bool.{Bool, true, false, cond, _&&_}
 use mathlib.Core.Logic.{_↔_}
-use Prim.Native.Nat.{ℕ, _+_, _<_}
-use native.Mathlib.Nat.{add-mul}
-use native.Mathlib.Omega.{arith}
 use lib.IntN.{ℤ, pos, _*ℤ_}
 use lib.Signed.{leZ}
 use Rattle.ints.specs.Whole.{maxZ}
-use Rattle.ints.proofs.Parts.{up, down, mul-keeps, le-true, true-le}
+use Rattle.ints.proofs.Parts.{mul-keeps, mul-cancels}
 use Rattle.ints.proofs.Least.{max-above, max-least, max-one-of, max-first, le-trans}
 use Rattle.ints.proofs.Truth.{and-true, and-left, and-right}
 use Rattle.grid.specs.Moments.{Axis, alongX, alongY, SomeMoment, CountedMoment, insideDuring}
@@ -20,8 +17,7 @@ use Rattle.grid.specs.declared.Query.{Query}
 use Rattle.grid.specs.declared.Rect.{Rect}
 use Rattle.grid.specs.declared.Report.{Report}
 use Rattle.grid.specs.declared.When.the-variants.{At, During}
-use Rattle.grid.proofs.MomentsCoreLaws.{cancel}
-use Rattle.grid.proofs.MomentsLaws.{scaled, inside-at-some-moment}
+use Rattle.grid.proofs.MomentsLaws.{inside-at-some-moment}
 use Rattle.grid.proofs.MomentsOneTimeLaws.{one-time}
 
 abbrev timeslice : Rect → ℤ → Query
@@ -41,14 +37,10 @@ after-earlier : {a b : Axis} {from last : ℤ} (start : ℤ) (s : SomeMoment fro
 after-earlier {from = from} start s h =
     le-trans (start *ℤ pos (s .m)) (from *ℤ pos (s .m)) (s .n) (mul-keeps start from (s .m) h) (s .not-before)
 
--- a time with a moment not before it and not after another time is not after that time
-not-after : (s t n : ℤ) (m : ℕ) → 0 < m → leZ (s *ℤ pos m) n ≡ true → leZ n (t *ℤ pos m) ≡ true → leZ s t ≡ true
-not-after s t n m o h k =
-    let x = scaled s m in
-    let y = scaled t m in
-    let b = le-true (s *ℤ pos m) (t *ℤ pos m) (le-trans (s *ℤ pos m) n (t *ℤ pos m) h k) in
-    true-le s t
-    (cancel (up s + down t) (up t + down s) m o (omega (arith, add-mul (up s) (down t) m, add-mul (up t) (down s) m, b, x .0, x .1, y .0, y .1)))
+-- a time with a moment not before it is not after the last time
+by-last : {a b : Axis} {from last : ℤ} (t : ℤ) (s : SomeMoment from last a b) → leZ (t *ℤ pos (s .m)) (s .n) ≡ true → leZ t last ≡ true
+by-last {last = last} t s h =
+    mul-cancels t last (s .m) (s .positive) (le-trans (t *ℤ pos (s .m)) (s .n) (last *ℤ pos (s .m)) h (s .not-after))
 
 module _ (q : Rect) (x-ordered : leZ (q .x .low) (q .x .high) ≡ true) (y-ordered : leZ (q .y .low) (q .y .high) ≡ true) (r : Report) where
   abbrev Moments : ℤ → ℤ → Type 0
@@ -89,7 +81,7 @@ module _ (q : Rect) (x-ordered : leZ (q .x .low) (q .x .high) ≡ true) (y-order
     unfolding isListed
     counted-listed c =
         let s = c .some in
-        let by = not-after (r .t) last (s .n) (s .m) (s .positive) (c .reported) (s .not-after) in
+        let by = by-last (r .t) s (c .reported) in
         and-true (leZ (r .t) last) (insideDuring q from last r) by
         (inside-moments from last (max-least first (r .t) last order by) .1
         (started from s (max-one-of (λ z. leZ (z *ℤ pos (s .m)) (s .n) ≡ true) first (r .t) (s .not-before) (c .reported))))

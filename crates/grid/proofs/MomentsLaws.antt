@@ -21,7 +21,7 @@ use Rattle.grid.proofs.MomentsOneTimeLaws.{speed-is}
 
 -- ---- m times a number
 
-pub scaled : (z : ℤ) (m : ℕ) → (up (z *ℤ pos m) ≡ up z * m) × (down (z *ℤ pos m) ≡ down z * m)
+scaled : (z : ℤ) (m : ℕ) → (up (z *ℤ pos m) ≡ up z * m) × (down (z *ℤ pos m) ≡ down z * m)
 scaled z m = let i = mul z (pos m) in (omega (arith, i .0), omega (arith, i .1))
 
 spread : (a b : ℤ) (m : ℕ) → (a -ℤ b) *ℤ pos m ≡ a *ℤ pos m -ℤ b *ℤ pos m

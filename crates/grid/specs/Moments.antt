@@ -51,7 +51,7 @@ pub record CountedMoment (first last : ℤ) (q : Rect) (r : Report) : Type 0 whe
   pub some : SomeMoment first last (alongX q r) (alongY q r)
   pub reported : leZ (r .t *ℤ pos (some .m)) (some .n) ≡ true
 
--- ---- what is tested: the ledger's rule and the code's. proofs/MomentsLaws says that it holds exactly where there is such a moment
+-- ---- what is tested: the ledger's rule and the code's. proofs/MomentsLaws says that it holds exactly where there is some moment, whatever the start
 
 -- a float that is at p at the start and goes at v is inside after u seconds exactly if after ≤ speed × u ≤ until
 unfoldable pub passageOf : ℤ → ℤ → Range → Passage

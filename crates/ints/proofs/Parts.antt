@@ -158,6 +158,14 @@ pub ruleset signed = (lt-true, lt-false, le-true, le-false, true-lt, false-lt, t
 pub mul-keeps : (a b : ℤ) (k : ℕ) → leZ a b ≡ true → leZ (a *ℤ pos k) (b *ℤ pos k) ≡ true
 mul-keeps a b k h = omega (arith, signed, mul a (pos k), mul b (pos k), mul-le-mul-right k (le-true a b h))
 
+-- and the other way round, where k is above 0
+pub mul-cancels : (a b : ℤ) (k : ℕ) → 0 < k → leZ (a *ℤ pos k) (b *ℤ pos k) ≡ true → leZ a b ≡ true
+mul-cancels a b k o h = go (leZ a b) refl
+  where
+    go : (t : Bool) → leZ a b ≡ t → t ≡ true
+    go true e = refl
+    go false e = absurd (omega (arith, signed, mul a (pos k), mul b (pos k), mul-le-mul-right k (le-false a b e), le-true (a *ℤ pos k) (b *ℤ pos k) h))
+
 pub mul-turns : (a b : ℤ) (k : ℕ) → leZ a b ≡ true → leZ (b *ℤ negsuc k) (a *ℤ negsuc k) ≡ true
 mul-turns a b k h =
     omega (arith, signed, mul a (negsuc k), mul b (negsuc k), mul-le-mul-right (suc k) (le-true a b h))
