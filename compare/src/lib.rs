@@ -14,8 +14,12 @@
 //! - `stream`: a run of bytes in, a run of bytes out.
 //! - `calls`: numbers for calls, good and bad, from dice.
 //! - `generate`: lists of call lines from fixed seeds.
+//! - `fleets`: call lines for a made-up fleet.
+//! - `fleet_inputs`: orders for fleets, good and bad.
 
 pub mod calls;
+pub mod fleet_inputs;
+pub mod fleets;
 pub mod generate;
 pub mod grid;
 pub mod ledger;

@@ -1,10 +1,13 @@
-//! Compares the replay program with the plain ledger, byte by byte.
+//! Compares the replay program with the plain ledger, and the fleet program with
+//! the plain rule for made-up fleets, byte by byte.
 //!
 //!     cargo run --release --offline -p compare -- [--more] [REPLAY]
 //!     cargo run --release --offline -p compare -- --mutants
 //!     cargo run --release --offline -p compare -- --write FOLDER
 //!     cargo run --release --offline -p compare -- --ledger <CALLS
 //!     cargo run --release --offline -p compare -- --chart
+//!     cargo run --release --offline -p compare -- --fleets [FLEET]
+//!     cargo run --release --offline -p compare -- --fleet <ORDER
 //!
 //! REPLAY is the program to compare; without it, `target/bin/replay` in the
 //! folder above this package. Every generated list goes through the program
@@ -14,23 +17,35 @@
 //! times of the program and of the ledger on three long files.
 //!
 //! `--mutants` needs no program: it shows that the lists tell the ledger from
-//! one with a wrong rule, for each of those in `Wrong`. `--write` writes the
-//! lists and the long files into a folder, to look at or to run by hand.
-//! `--ledger` answers call lines from standard input, as the ledger does.
+//! one with a wrong rule, for each of those in `Wrong`, and that the inputs of
+//! `--fleets` tell the rule for fleets from each in `WrongFleet`. `--write`
+//! writes the lists and the long files into a folder, to look at or to run by
+//! hand. `--ledger` answers call lines from standard input, as the ledger does.
 //! `--chart` prints the curve table by the quadrant rule, as the chart room
 //! wants it: 32 lines of 32 numbers in 5 columns each, row 0 first.
+//!
+//! `--fleets` runs the program FLEET, without it `target/bin/fleet`, on orders
+//! for fleets, good and bad; each line that it writes must be read back as its
+//! call, and the ledger must accept it. `--fleet` writes what is due for standard
+//! input.
 
+mod fleet_runs;
+mod programs;
+
+use fleet_runs::{compare_fleets, fleet_mutants};
+use plain_ledger::fleets::{written, ORDER};
 use plain_ledger::generate::{lists, many_asks, many_reports, List};
 use plain_ledger::grid::curve_number;
 use plain_ledger::limits::SIDE;
 use plain_ledger::lines::{COLUMNS, LONGEST};
 use plain_ledger::methods::Wrong;
 use plain_ledger::stream::{answers, serve};
+use programs::{fail, first_difference, line, or_fail, piped, program_at, through_pipe};
 use std::collections::BTreeMap;
 use std::fs::{self, File};
 use std::io::{Read, Write};
 use std::path::{Path, PathBuf};
-use std::process::{exit, Command, Stdio};
+use std::process::{exit, Command};
 use std::sync::mpsc;
 use std::time::{Duration, Instant};
 
@@ -53,15 +68,13 @@ fn main() {
             "--write" => return write_lists(&arguments.next().unwrap_or_else(|| usage())),
             "--ledger" => return serve_ledger(),
             "--chart" => return print_chart(),
-            name if !name.starts_with('-') && program.is_none() => program = Some(name.into()),
+            "--fleets" => return compare_fleets(&program_at(arguments.next(), "fleet")),
+            "--fleet" => return write_fleet(),
+            name if !name.starts_with('-') && program.is_none() => program = Some(argument),
             _ => usage(),
         }
     }
-    let above = || Path::new(env!("CARGO_MANIFEST_DIR")).join("../target/bin/replay");
-    let program: PathBuf = program.unwrap_or_else(above);
-    if !program.is_file() {
-        fail(&format!("no program at {}", program.display()));
-    }
+    let program = program_at(program, "replay");
     let folder = std::env::temp_dir().join(format!("compare-{}", std::process::id()));
     or_fail(fs::create_dir_all(&folder), "making a folder for the lists");
     let run = Run { program, folder };
@@ -74,17 +87,11 @@ fn main() {
     or_fail(fs::remove_dir_all(&run.folder), "removing the lists");
 }
 
-fn fail(message: &str) -> ! {
-    eprintln!("{message}");
-    exit(1)
-}
-
 fn usage() -> ! {
-    fail("usage: compare [--more] [REPLAY] | --mutants | --write FOLDER | --ledger | --chart")
-}
-
-fn or_fail<T>(result: std::io::Result<T>, doing: &str) -> T {
-    result.unwrap_or_else(|error| fail(&format!("{doing}: {error}")))
+    fail(
+        "usage: compare [--more] [REPLAY] | --mutants | --write FOLDER | --ledger | --chart | \
+         --fleets [FLEET] | --fleet",
+    )
 }
 
 /// The ledger as a process, for the times.
@@ -99,6 +106,15 @@ fn print_chart() {
             (0..SIDE).map(|column| format!("{:5}", curve_number(row * SIDE + column))).collect();
         println!("{line}");
     }
+}
+
+/// Writes what is due for standard input. Two bytes past an order it is none,
+/// whatever follows.
+fn write_fleet() {
+    let mut input = Vec::new();
+    let most = ORDER as u64 + 2;
+    or_fail(std::io::stdin().take(most).read_to_end(&mut input), "reading");
+    or_fail(std::io::stdout().write_all(&written(&input, None)), "writing");
 }
 
 fn write_lists(folder: &str) {
@@ -121,21 +137,6 @@ fn count_numbers(answers: &[u8], counts: &mut [usize; NUMBERS]) {
         let number = number.and_then(|text| text.trim_start().parse::<usize>().ok());
         counts[number.expect("an answer line has a number")] += 1;
     }
-}
-
-/// The first line at which two outputs differ, counted from 0.
-fn first_difference(wanted: &[u8], got: &[u8]) -> Option<usize> {
-    let same = wanted.iter().zip(got).take_while(|(a, b)| a == b).count();
-    let differ = same < wanted.len() || same < got.len();
-    differ.then(|| wanted[..same].iter().filter(|byte| **byte == b'\n').count())
-}
-
-fn line(bytes: &[u8], number: usize) -> String {
-    let shown = bytes.split_inclusive(|byte| *byte == b'\n').nth(number);
-    shown.map_or("(none)".into(), |shown| {
-        let cut = &shown[..shown.len().min(400)];
-        format!("\"{}\"", cut.escape_ascii())
-    })
 }
 
 struct Run {
@@ -204,35 +205,17 @@ impl Run {
     /// Lists in pieces through a pipe.
     fn compare_pieces(&self) {
         for (length, list) in PIECES.into_iter().cycle().zip(lists(1)) {
-            let mut child = self.piped();
-            let mut to = child.stdin.take().expect("a pipe");
-            let mut from = child.stdout.take().expect("a pipe");
-            let input = list.input.clone();
-            let writer = std::thread::spawn(move || {
-                let mut pieces = input.chunks(length);
-                pieces.try_for_each(|piece| to.write_all(piece))
-            });
-            let mut got = Vec::new();
-            or_fail(from.read_to_end(&mut got).map(drop), "reading a pipe");
-            let written = writer.join().unwrap_or(Ok(()));
-            or_fail(written, "writing to a pipe");
-            or_fail(child.wait().map(drop), "waiting for the program");
+            let got = through_pipe(&self.program, &list.input, length, Duration::ZERO);
             let name = format!("a list ({}) in pieces of {length}", list.style);
             self.check(&name, &list.input, &list.answers, &got);
         }
         println!("the same through a pipe in pieces of {PIECES:?} bytes");
     }
 
-    fn piped(&self) -> std::process::Child {
-        let mut command = Command::new(&self.program);
-        let command = command.stdin(Stdio::piped()).stdout(Stdio::piped());
-        or_fail(command.spawn(), "starting the program")
-    }
-
     /// Whether each line is answered before the next one comes.
     fn look_at_typing(&self) {
         let (calls, wanted) = plain_ledger::LISTING;
-        let mut child = self.piped();
+        let mut child = piped(&self.program);
         let mut to = child.stdin.take().expect("a pipe");
         let mut from = child.stdout.take().expect("a pipe");
         let (sender, answered) = mpsc::channel();
@@ -310,6 +293,7 @@ fn mutants() {
         println!("  right {}", line(&list.answers, number));
         println!("  wrong {}", line(&answers(&list.input, Some(wrong)), number));
     }
+    fleet_mutants();
 }
 
 #[cfg(test)]

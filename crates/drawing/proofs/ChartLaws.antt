@@ -14,7 +14,7 @@ use Rattle.grid.specs.Curve.{cell, IsCurve}
 use Rattle.grid.proofs.CurveLaws.{number-below}
 use Rattle.fields.specs.Numbers.{inColumns}
 use Rattle.fields.specs.Put.{put}
-use Rattle.fields.proofs.PutLaws.{put-byte, put-put, put-front}
+use Rattle.fields.proofs.PutLaws.{put-more, put-front}
 use Rattle.fields.proofs.NumbersLaws.{InTurn, length-texts, length-in-columns}
 use Rattle.drawing.specs.Chart.{numberColumns, lineBytes, chartBytes, rowNumbers, gridRows, chartLine, chartLines, chartText}
 
@@ -86,11 +86,7 @@ line-put out out′ numbers at long small room same is =
     let text = inColumns numberColumns numbers in
     let wide = length-in-columns numberColumns (lit≤ tt) numbers small in
     let end : at + lineBytes - 1 ≡ at + length text = omega arith in
-    let last = at + length text in
-    ap (λ (i : ℕ). set out′ i 10) end
-    ∙ sym (put-byte out′ last 10 (omega arith))
-    ∙ ap (λ (t : List ℕ). put t last (10 ∷ [])) is
-    ∙ put-put out at text (10 ∷ []) (omega arith)
+    ap (λ (i : ℕ). set out′ i 10) end ∙ put-more out out′ text at 10 (omega arith) same is
 
 -- ---- the rows of the grid
 

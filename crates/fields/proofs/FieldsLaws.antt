@@ -18,10 +18,11 @@ use Rattle.ints.proofs.Parts.{true-false}
 use Rattle.ints.proofs.Truth.{and-left, and-right}
 use Rattle.fields.specs.declared.reading.Seen.{Seen}
 use Rattle.fields.specs.declared.reading.Seen.the-variants.{Blanks, Minus, Zero, Digits, Other}
-use Rattle.fields.specs.Fields.{digit, fieldOf, isWritable, greatest, leastSize}
-use Rattle.fields.specs.Reading.{withDigit, after, number, noNumber, numberOf, seenAt, fieldAt}
+use Rattle.fields.specs.Fields.{digit, digits, justified, fieldOf, isWritable, greatest, leastSize}
+use Rattle.fields.specs.Reading.{sizeSeen, withDigit, after, number, noNumber, numberOf, seenAt, fieldAt, unsigned, unsignedOf, unsignedAt}
 use Rattle.fields.specs.Writing.{columnsOf, numberIn}
-use Rattle.fields.proofs.WritingLaws.{columns-more, field-above, field-below, in-range}
+use Rattle.fields.proofs.ReadingLaws.{seen-size}
+use Rattle.fields.proofs.WritingLaws.{columns-more, number-above, field-above, field-below, in-range}
 
 -- what stands before the digits of a number, and what is seen of that alone
 abbrev leadFor : Bool → ℕ
@@ -171,6 +172,18 @@ pub written-field : (line : List ℕ) (at : ℕ) (z : ℤ) → at + 10 ≤ lengt
 written-field line at z h w e =
     ap numberOf (seen-is line at 10 h ∙ ap (readAll Blanks) e) ∙ field-read z w
 
+-- a number from 0 on in ten columns
+unsigned-read : (n : ℕ) → n < 10 ^ 10 → unsignedOf (readAll Blanks (justified 10 (digits 10 n))) ≡ unsigned n
+unfolding unsignedOf
+unsigned-read zero h = ap unsignedOf (ap (readAll Blanks) (number-above 10 0 (lit< tt) h) ∙ zero-read)
+unsigned-read (suc n) h =
+    ap unsignedOf (ap (readAll Blanks) (number-above 10 (suc n) (lit< tt) h) ∙ ten-read false (suc n) (omega arith) (omega arith))
+
+pub written-unsigned :
+    (line : List ℕ) (at n : ℕ) → at + 10 ≤ length line → n < 10 ^ 10 → part line at 10 ≡ justified 10 (digits 10 n) → unsignedAt line at ≡ unsigned n
+written-unsigned line at n h l e =
+    ap unsignedOf (seen-is line at 10 h ∙ ap (readAll Blanks) e) ∙ unsigned-read n l
+
 -- ---- what is read to a number is the number as it is written
 
 -- the bytes of which something is seen
@@ -268,3 +281,17 @@ bytes-field Other t e h = absurd (true-false (sym h))
 -- a field in a line that is read to a number is that number's
 pub read-field-is : (line : List ℕ) (at : ℕ) → at + 10 ≤ length line → fieldAt line at .good ≡ true → part line at 10 ≡ fieldOf (fieldAt line at .number)
 read-field-is line at h g = bytes-field (seenAt line at 10) (part line at 10) (bytes-seen line at 10 h) g
+
+bytes-unsigned : (s : Seen) (t : List ℕ) → sizeSeen s < 10 ^ 10 → Bytes s 10 t → unsignedOf s .good ≡ true → t ≡ justified 10 (digits 10 (unsignedOf s .number))
+unfolding unsignedOf
+bytes-unsigned Blanks t l e h = absurd (true-false (sym h))
+bytes-unsigned Minus t l e h = absurd (true-false (sym h))
+bytes-unsigned Zero t l e h = e ∙ sym (number-above 10 0 (lit< tt) (lit< tt))
+bytes-unsigned (Digits false n) t l e h = e .1 ∙ columns-more 9 32 n (e .0) ∙ sym (number-above 10 n (lit< tt) l)
+bytes-unsigned (Digits true n) t l e h = absurd (true-false (sym h))
+bytes-unsigned Other t l e h = absurd (true-false (sym h))
+
+-- the same of a number from 0 on
+pub read-unsigned-is : (line : List ℕ) (at : ℕ) → at + 10 ≤ length line → unsignedAt line at .good ≡ true → part line at 10 ≡ justified 10 (digits 10 (unsignedAt line at .number))
+read-unsigned-is line at h g =
+    bytes-unsigned (seenAt line at 10) (part line at 10) (seen-size line at 10) (bytes-seen line at 10 h) g

@@ -3,7 +3,7 @@
 use mathlib.Core.Path.{_≡_, refl, sym, ap, ap₂, _∙_}
 use mathlib.Core.Bool.{true}
 use mathlib.Core.List.{List, [], _∷_, _++_, append-assoc, map}
-use Prim.Native.Nat.{ℕ, zero, suc, _+_, _*_, _≤_, _<_}
+use Prim.Native.Nat.{ℕ, zero, suc, _+_, _*_, _^_, _≤_, _<_}
 use native.Mathlib.Nat.{mul-zero, mul-suc, mul-add, pow-le-pow-right}
 use native.Mathlib.Numerals.{add-one}
 use native.Mathlib.Omega.{arith}
@@ -155,3 +155,28 @@ module _ (columns : ℕ) (wide : shortDigits ≤ columns) where
 
   pub length-in-columns : (ns : List ℕ) → ((i : ℕ) → getD ns i 0 < 65536) → length (inColumns columns ns) ≡ columns * length ns
   length-in-columns ns f = length-texts (columns-in-turn columns) columns 0 ns (λ i l. length-short (getD ns i 0) (f i))
+
+-- numbers of up to ten digits in ten columns each, whatever follows
+length-unsigned : (n : ℕ) → n < 10 ^ 10 → length (justified 10 (digits 10 n)) ≡ 10
+length-unsigned n h = ap length (number-above 10 n (lit< tt) h) ∙ length-number 10 32 n (lit< tt)
+
+pub length-all-unsigned : (ns : List ℕ) → ((j : ℕ) → getD ns j 0 < 10 ^ 10) → length (inColumns 10 ns) ≡ 10 * length ns
+length-all-unsigned ns f = length-texts (columns-in-turn 10) 10 0 ns (λ i l. length-unsigned (getD ns i 0) (f i))
+
+module _ (rest : List ℕ) where
+  pub part-of-columns :
+      (ns : List ℕ) (i : ℕ)
+      → ((j : ℕ) → getD ns j 0 < 10 ^ 10)
+      → i < length ns
+      → part (inColumns 10 ns ++ rest) (10 * i) 10 ≡ justified 10 (digits 10 (getD ns i 0))
+  unfolding inColumns
+  part-of-columns [] i f l = absurd (omega arith)
+  part-of-columns (n ∷ ns) zero f l =
+      ap (take 10) (append-assoc (justified 10 (digits 10 n)) (inColumns 10 ns) rest)
+      ∙ take-at (justified 10 (digits 10 n)) (inColumns 10 ns ++ rest) 10 (length-unsigned n (f 0))
+  part-of-columns (n ∷ ns) (suc i) f l =
+      let first = justified 10 (digits 10 n) in
+      let e : 10 * suc i ≡ length first + 10 * i = omega (arith, length-unsigned n (f 0)) in
+      ap (take 10)
+      (ap₂ drop e (append-assoc first (inColumns 10 ns) rest) ∙ drop-append-add first (inColumns 10 ns ++ rest) (10 * i))
+      ∙ part-of-columns ns i (λ j. f (suc j)) (omega arith)

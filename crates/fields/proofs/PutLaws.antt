@@ -59,3 +59,15 @@ put-front out text = ap (λ (i : ℕ). text ++ drop i out) (zero-add (length tex
 pub put-byte : (out : List ℕ) (at b : ℕ) → at < length out → put out at (b ∷ []) ≡ set out at b
 put-byte out at b h =
     put-last out at [] b (rw (add-zero at) h) ∙ put-none (set out (at + 0) b) at ∙ ap (λ (i : ℕ). set out i b) (add-zero at)
+
+-- a text that was put, and one byte more
+pub put-more :
+    (out out′ text : List ℕ) (at b : ℕ)
+    → at + length text < length out
+    → length out′ ≡ length out
+    → out′ ≡ put out at text
+    → set out′ (at + length text) b ≡ put out at (text ++ b ∷ [])
+put-more out out′ text at b room same is =
+    sym (put-byte out′ (at + length text) b (omega arith))
+    ∙ ap (λ (t : List ℕ). put t (at + length text) (b ∷ [])) is
+    ∙ put-put out at text (b ∷ []) (omega arith)

@@ -9,6 +9,7 @@ use lib.IntN.{ℤ, pos, negℤ}
 use lib.ListN.{getD}
 use Rattle.fields.specs.declared.reading.Field.{Field}
 use Rattle.fields.specs.declared.reading.Seen.{Seen}
+use Rattle.fields.specs.declared.reading.Unsigned.{Unsigned}
 use Rattle.fields.specs.declared.reading.Seen.the-variants.{Blanks, Minus, Zero, Digits, Other}
 use Rattle.fields.specs.Fields.{width, greatest, leastSize}
 
@@ -56,3 +57,24 @@ seenAt line at (suc k) = after (seenAt line at k) (getD line (at + k) 0)
 -- the field that starts at a place of a line
 abbrev pub fieldAt : List ℕ → ℕ → Field
 fieldAt line at = numberOf (seenAt line at width)
+
+-- ---- numbers from 0 on, which may be greater than a line's
+
+abbrev pub unsigned : ℕ → Unsigned
+unsigned n = record { good = true; number = n }
+
+abbrev pub noUnsigned : Unsigned
+noUnsigned = record { good = false; number = 0 }
+
+-- 0, or digits without "-"
+unfoldable pub unsignedOf : Seen → Unsigned
+unsignedOf Blanks = noUnsigned
+unsignedOf Minus = noUnsigned
+unsignedOf Zero = unsigned 0
+unsignedOf (Digits false n) = unsigned n
+unsignedOf (Digits true n) = noUnsigned
+unsignedOf Other = noUnsigned
+
+-- the one whose columns start at a place of a line
+abbrev pub unsignedAt : List ℕ → ℕ → Unsigned
+unsignedAt line at = unsignedOf (seenAt line at width)

@@ -5,7 +5,7 @@ ghost use Prim.Native.Nat.{_+_, _<_, _≤_, _^_};
 ghost use lib.ListN.{length};
 ghost use lib.IntN.{pos, negℤ};
 ghost use Rattle.fields.specs.Fields.{width, leastSize};
-ghost use Rattle.fields.specs.Reading.{sizeSeen, withDigit, after, noNumber, numberOf, fieldAt};
+ghost use Rattle.fields.specs.Reading.{sizeSeen, withDigit, after, noNumber, numberOf, seenAt, fieldAt, noUnsigned, unsignedOf, unsignedAt};
 use crate::GREATEST;
 use crate::LEAST_SIZE;
 use crate::WIDTH;
@@ -26,6 +26,12 @@ pub enum Seen {
 pub struct Field {
     pub good: bool,
     pub number: i32,
+}
+
+// The number from 0 on that the columns of a field are, of up to ten digits; 0 where they are none.
+pub struct Unsigned {
+    pub good: bool,
+    pub number: usize,
 }
 
 fn with_digit(negative: bool, n: usize, b: u8) -> Seen
@@ -126,10 +132,10 @@ fn number_of(seen: Seen) -> Field
     }
 }
 
-// The field that starts at a place of a line.
-pub fn read_field(line: &[u8], at: usize) -> Field
+// What the bytes of the field are that starts at a place of a line.
+fn seen_at(line: &[u8], at: usize) -> Seen
     requires { ⌜ at + width ≤ length (now line) ⌝ }
-    ensures { λ r. ⌜ r ≡ fieldAt (now (line .entry)) at ⌝ }
+    ensures { λ r. ⌜ r ≡ seenAt (now (line .entry)) at width ⌝ }
 {
     let mut seen = Seen::Blanks;
     let mut k = 0;
@@ -137,5 +143,57 @@ pub fn read_field(line: &[u8], at: usize) -> Field
         seen = after(seen, line[at + k]);
         k += 1;
     }
-    number_of(seen)
+    seen
+}
+
+// The field that starts at a place of a line.
+pub fn read_field(line: &[u8], at: usize) -> Field
+    requires { ⌜ at + width ≤ length (now line) ⌝ }
+    ensures { λ r. ⌜ r ≡ fieldAt (now (line .entry)) at ⌝ }
+{
+    number_of(seen_at(line, at))
+}
+
+fn no_unsigned() -> Unsigned
+    ensures { λ r. ⌜ r ≡ noUnsigned ⌝ }
+{
+    Unsigned {
+        good: false,
+        number: 0,
+    }
+}
+
+fn unsigned_of_digits(negative: bool, n: usize) -> Unsigned
+    ensures { λ r. ⌜ r ≡ unsignedOf (Seen.Digits negative n) ⌝ }
+{
+    if negative {
+        return no_unsigned();
+    }
+    Unsigned {
+        good: true,
+        number: n,
+    }
+}
+
+fn unsigned_of(seen: Seen) -> Unsigned
+    ensures { λ r. ⌜ r ≡ unsignedOf seen ⌝ }
+{
+    match seen {
+        Seen::Zero => Unsigned {
+            good: true,
+            number: 0,
+        },
+        Seen::Digits(negative, n) => unsigned_of_digits(negative, n),
+        Seen::Blanks => no_unsigned(),
+        Seen::Minus => no_unsigned(),
+        Seen::Other => no_unsigned(),
+    }
+}
+
+// The same of a number from 0 on, which may be greater than a field's.
+pub fn read_unsigned(line: &[u8], at: usize) -> Unsigned
+    requires { ⌜ at + width ≤ length (now line) ⌝ }
+    ensures { λ r. ⌜ r ≡ unsignedAt (now (line .entry)) at ⌝ }
+{
+    unsigned_of(seen_at(line, at))
 }

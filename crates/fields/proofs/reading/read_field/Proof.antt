@@ -1,65 +1,19 @@
--- `fields::reading::read_field` meets its contract. The invariant: `seen` is what the first k bytes of the field are. The measure is what is left of them.
+-- `fields::reading::read_field` meets its contract.
 -- Assumes nothing.
-use mathlib.Core.Path.{_≡_, refl, sym, ap, _∙_}
-use Prim.Native.Nat.{_+_, _-_, _≤_}
-use native.Mathlib.Numerals.{add-one}
-use native.Mathlib.Omega.{arith}
+use mathlib.Core.Path.{ap, _∙_}
 use borrow.Author.Needs.{needs}
-use denote.Ref.{now}
-use lib.ListN.{getD}
-use Rattle.fields.specs.declared.reading.Seen.{Seen}
-use Rattle.fields.specs.Fields.{width}
-use Rattle.fields.specs.Reading.{sizeSeen, after, numberOf, seenAt}
-use Rattle.fields.proofs.ReadingLaws.{seen-small}
+use Rattle.fields.specs.Reading.{numberOf}
 use Rattle.fields.proofs.reading.read_field.Statement.{statement}
 use Rattle.fields.proofs.reading.read_field.Tie as tie
 
-abbrev Inv-loop : tie.InvT-loop
-Inv-loop line at seen₀ k₀ seen k = (k ≤ width) × (seen ≡ seenAt line at k)
+seen-at-requires : tie.Need-seen-at-requires
+seen-at-requires c κs = search needs
 
-abbrev μ-loop : tie.MeasureT-loop
-μ-loop line at seen₀ k₀ seen k = width - k
-
-loop-holds : tie.Need-loop-holds Inv-loop μ-loop
-unfolding seenAt
-loop-holds c = (omega arith, refl)
-
-add-after : tie.Need-add-after Inv-loop μ-loop
-add-after c = omega arith
-
-shared-slice-read-after : tie.Need-shared-slice-read-after Inv-loop μ-loop
-shared-slice-read-after c = omega arith
-
-after-requires : tie.Need-after-requires Inv-loop μ-loop
-after-requires c κs =
-    let l = c .before .before in
-    let a = l .before .before .args in
-    omega (arith, ap sizeSeen (l .loop .inv .1), seen-small (now (a .line)) (a .at) (l .loop .k) (omega arith))
-
-add-k : tie.Need-add-k Inv-loop μ-loop
-add-k c = omega arith
-
-loop-less : tie.Need-loop-less Inv-loop μ-loop
-loop-less c = omega arith
-
-loop-again : tie.Need-loop-again Inv-loop μ-loop
-unfolding seenAt
-loop-again c =
-    let l = c .before .before .before in
-    let a = l .before .before .args in
-    (omega arith, c .after .ensures ∙ ap (λ (s : Seen). after s (getD (now (a .line)) (a .at + l .loop .k) 0)) (l .loop .inv .1) ∙ ap (seenAt (now (a .line)) (a .at)) (sym (add-one (l .loop .k))))
-
-number-of-requires : tie.Need-number-of-requires Inv-loop μ-loop
+number-of-requires : tie.Need-number-of-requires
 number-of-requires c κs = search needs
 
-returns : tie.Need-returns Inv-loop μ-loop
-returns c =
-    let l = c .before .before in
-    let a = l .before .before .args in
-    let e : l .loop .k ≡ width = omega arith in
-    c .number-of .ensures ∙ ap numberOf (l .loop .inv .1 ∙ ap (seenAt (now (a .line)) (a .at)) e)
+returns : tie.Need-returns
+returns c = c .number-of .ensures ∙ ap numberOf (c .before .seen-at .ensures)
 
 pub read-field-spec : {M : Type 1} → statement M
-read-field-spec =
-    tie.close
-    (tie.spec Inv-loop μ-loop loop-holds add-after shared-slice-read-after after-requires add-k loop-less loop-again number-of-requires returns)
+read-field-spec = tie.close (tie.spec seen-at-requires number-of-requires returns)

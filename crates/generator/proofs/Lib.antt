@@ -1,0 +1,4 @@
+pub mod StepsLaws
+pub mod GeneratorLaws
+pub mod Claims
+pub mod Examples

@@ -1,0 +1,3 @@
+pub mod Generator
+pub mod Claims
+pub mod Examples

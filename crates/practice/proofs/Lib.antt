@@ -1,0 +1,2 @@
+pub mod Newlines
+pub mod Claims
