@@ -1,4 +1,4 @@
-// What is written for an input: the lines of its fleet from the skipped ones on, or "?".
+// What is written for an input: the lines of its fleet but the skipped ones, or "?".
 ghost use mathlib.Core.Path.{_≡_};
 ghost use Rattle.fields.specs.Put.{put};
 ghost use Rattle.lines.specs.Lines.{Written};
