@@ -1,12 +1,12 @@
--- The laws of a text put into bytes: its last byte apart, one text after another, in front, and a single byte.
+-- The laws of a text put into bytes: its last byte apart, one text after another, in front, a single byte, and into the part from a place on.
 -- Assumes nothing.
 use mathlib.Core.Path.{_≡_, sym, ap, ap₂, _∙_}
 use mathlib.Core.List.{List, [], _∷_, _++_, append-assoc, append-nil}
-use Prim.Native.Nat.{ℕ, suc, _+_, _≤_, _<_}
+use Prim.Native.Nat.{ℕ, suc, _+_, _-_, _≤_, _<_}
 use native.Mathlib.Nat.{add-zero, zero-add}
 use native.Mathlib.Omega.{arith}
-use lib.ListN.{length, take, drop, set, length-append, length-set, length-take, take-append-drop}
-use lib.Seq.{take-set-le, drop-set-lt, drop-cons, getD-set-same, take-at, drop-append-add, drop-drop}
+use lib.ListN.{length, take, drop, set, length-append, length-set, length-take, length-drop, drop-of-length-le, take-append-drop}
+use lib.Seq.{take-set-le, drop-set-lt, drop-cons, getD-set-same, take-at, drop-append-add, drop-drop, take-all}
 use Rattle.fields.specs.Put.{put}
 
 module _ (out : List ℕ) (at : ℕ) where
@@ -71,3 +71,16 @@ put-more out out′ text at b room same is =
     sym (put-byte out′ (at + length text) b (omega arith))
     ∙ ap (λ (t : List ℕ). put t (at + length text) (b ∷ [])) is
     ∙ put-put out at text (b ∷ []) (omega arith)
+
+-- a text written in front of the bytes from a place on
+pub put-part :
+    (out text : List ℕ) (at : ℕ)
+    → take at out ++ ((text ++ drop (length text) (take (length out - at) (drop at out))) ++ drop (length out - at) (drop at out)) ≡ put out at text
+unfolding put
+put-part out text at =
+    let k = length out - at in
+    let long : length (drop at out) ≤ k = omega (arith, length-drop at out) in
+    ap₂ (λ (mid rest : List ℕ). take at out ++ ((text ++ drop (length text) mid) ++ rest)) (take-all k (drop at out) long) (drop-of-length-le (drop at out) long)
+    ∙ ap (λ (t : List ℕ). take at out ++ t) (append-nil (text ++ drop (length text) (drop at out)))
+    ∙ ap (λ (rest : List ℕ). take at out ++ (text ++ rest)) (drop-drop (length text) at out)
+    ∙ sym (append-assoc (take at out) text (drop (at + length text) out))

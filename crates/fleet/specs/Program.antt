@@ -1,4 +1,4 @@
--- What one read of the fleet program leaves.
+-- What the fleet program's reads leave.
 -- Assumes nothing.
 use mathlib.Core.Path.{_≡_}
 use mathlib.Core.Bool.{true}
@@ -19,3 +19,8 @@ pub record ReadsMore (input input′ : List ℕ) (held : ℕ) (r : Read) : Type 
   pub behind : held ≤ r .held
   pub within : r .held ≤ length input′
   pub goes-on : r .more ≡ true → held < r .held
+
+-- the whole of it: where there is more to read, as many bytes are held as there is room for
+pub record ReadsInput (input′ : List ℕ) (r : Read) : Type 0 where
+  pub within : r .held ≤ length input′
+  pub full : r .more ≡ true → r .held ≡ length input′

@@ -4,7 +4,7 @@ ghost use mathlib.Core.Path.{_≡_};
 ghost use Prim.Native.Nat.{_≤_};
 ghost use lib.ListN.{length};
 ghost use Rattle.fleets.specs.Fleets.{fleetText};
-ghost use Rattle.fleet.specs.Program.{ReadsPart, ReadsMore};
+ghost use Rattle.fleet.specs.Program.{ReadsPart, ReadsMore, ReadsInput};
 use fleets::FLEET_BYTES;
 use fleets::write_fleet;
 use streams::read_chunk;
@@ -47,7 +47,7 @@ fn read_more(input: &mut [u8], held: usize) -> Read
 
 // Reads until the input has ended, a read has failed or no byte more matters.
 fn read_input(input: &mut [u8]) -> Read
-    ensures { λ r. ⌜ r .held ≤ length (now (input .exit)) ⌝ }
+    ensures { λ r. ⌜ ReadsInput (now (input .exit)) r ⌝ }
 {
     let mut held = 0;
     while held < input.len() {

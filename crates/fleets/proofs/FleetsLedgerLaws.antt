@@ -50,9 +50,9 @@ record Next (k : ℕ) (r : Report) : Type 0 where
   at-start : r .t ≡ pos 0
   good : inRange r ≡ true
 
-float-next : (k s : ℕ) → k < lastId → Next k (floatOf (suc k) s)
+may-come-next : (k s : ℕ) → k < lastId → Next k (floatOf (suc k) s)
 unfolding floatOf
-float-next k s h = record { id-is = refl; at-start = refl; good = float-in-range (suc k) s (omega arith) (omega arith) }
+may-come-next k s h = record { id-is = refl; at-start = refl; good = float-in-range (suc k) s (omega arith) (omega arith) }
 
 -- what the ledger makes of a float: it answers with one float more, which it then holds
 pub record Accepts (k h : ℕ) (l : Ledger) (fed : Fed) : Type 0 where
@@ -110,7 +110,7 @@ module _ (k h : ℕ) (l : Ledger) (f : Filled k h l) (room : ℕ) (r : Report) (
 
 pub float-accepted :
     (k h : ℕ) (l : Ledger) → Filled k h l → (room s : ℕ) → k < lastId → h < capacity → Accepts k h l (fedWith room (floatOf (suc k) s))
-float-accepted k h l f room s i c = next-accepted k h l f room (floatOf (suc k) s) (float-next k s i) c
+float-accepted k h l f room s i c = next-accepted k h l f room (floatOf (suc k) s) (may-come-next k s i) c
 
 -- ---- several
 

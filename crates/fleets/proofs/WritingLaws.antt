@@ -3,17 +3,16 @@
 -- Assumes nothing.
 use mathlib.Core.Path.{_≡_, refl, sym, ap, ap₂, _∙_}
 use mathlib.Core.Bool.{true}
-use mathlib.Core.List.{List, [], _∷_, _++_, append-assoc, append-nil}
+use mathlib.Core.List.{List, [], _∷_, _++_}
 use Prim.Native.Nat.{ℕ, _+_, _-_, _*_, _≤_, _<_}
 use native.Mathlib.Omega.{arith}
-use lib.ListN.{length, getD, take, drop, set, length-append, length-drop, drop-of-length-le}
-use lib.Seq.{take-all, drop-drop}
+use lib.ListN.{length, getD, take, drop, set, length-append}
 use Rattle.grid.specs.declared.Report.{Report}
 use Rattle.fields.specs.Fields.{greatest}
 use Rattle.fields.specs.Numbers.{areWritable}
 use Rattle.fields.specs.Put.{put}
 use Rattle.fields.proofs.NumbersLaws.{length-fields, InTurn, length-texts, left, left-next, left-none}
-use Rattle.fields.proofs.PutLaws.{put-front, put-more}
+use Rattle.fields.proofs.PutLaws.{put-front, put-more, put-part}
 use Rattle.generator.specs.Generator.{steps, jump}
 use Rattle.generator.proofs.Claims.{jump-is-steps}
 use Rattle.lines.specs.Lines.{letterOf, reportNumbers, changeNumbers, numbersOf, callLine, Written}
@@ -33,19 +32,6 @@ call-bytes r h = omega (arith, length-fields (reportNumbers r) h)
 pub float-bytes : (r : Report) → areWritable (reportNumbers r) ≡ true → length (floatLine r) ≡ floatBytes
 unfolding floatLine
 float-bytes r h = length-append (callLine (addOf r)) (10 ∷ []) ∙ omega (arith, call-bytes r h)
-
--- a text written in front of the bytes from a place on
-put-part :
-    (out text : List ℕ) (at : ℕ)
-    → take at out ++ ((text ++ drop (length text) (take (length out - at) (drop at out))) ++ drop (length out - at) (drop at out)) ≡ put out at text
-unfolding put
-put-part out text at =
-    let k = length out - at in
-    let long : length (drop at out) ≤ k = omega (arith, length-drop at out) in
-    ap₂ (λ (mid rest : List ℕ). take at out ++ ((text ++ drop (length text) mid) ++ rest)) (take-all k (drop at out) long) (drop-of-length-le (drop at out) long)
-    ∙ ap (λ (t : List ℕ). take at out ++ t) (append-nil (text ++ drop (length text) (drop at out)))
-    ∙ ap (λ (rest : List ℕ). take at out ++ (text ++ rest)) (drop-drop (length text) at out)
-    ∙ sym (append-assoc (take at out) text (drop (at + length text) out))
 
 -- the call's line is written there, and then its newline
 pub float-put :

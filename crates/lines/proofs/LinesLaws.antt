@@ -7,7 +7,7 @@ use Prim.Native.Nat.{ℕ, zero, suc, _+_, _*_, _≤_, _<_}
 use native.Mathlib.Omega.{arith}
 use lib.IntN.{ℤ, pos}
 use lib.ListN.{length, getD, take, drop, length-append, set}
-use lib.Seq.{drop-drop, take-add, take-all, take-suc}
+use lib.Seq.{drop-drop, take-add, take-all, take-at, take-suc}
 use Rattle.ints.proofs.Truth.{and-left, and-right}
 use Rattle.fields.specs.Numbers.{fields, areWritable, nth}
 use Rattle.fields.proofs.NumbersLaws.{writable-at, length-fields, fields-append, part-of-fields}
@@ -87,3 +87,12 @@ line-more letter xs ys out first second n m h k w e l =
           ∙ ap (λ (t : List ℕ). (letter ∷ t) ++ drop (length (letter ∷ t)) out) (sym (fields-append xs ys));
       count = l ∙ omega (arith, w .count, ap length (fields-append xs ys), length-append (fields xs) (fields ys), length-fields ys k);
     }
+
+-- ---- a text written in front
+
+module _ {text before after : List ℕ} {n : ℕ} (w : Written text before after n) where
+  pub written-fits : n ≤ length after
+  written-fits = omega (arith, ap length (w .bytes), length-append text (drop (length text) before), w .count)
+
+  pub written-front : take n after ≡ text
+  written-front = ap (take n) (w .bytes) ∙ take-at text (drop (length text) before) n (sym (w .count))

@@ -9,12 +9,15 @@ use native.Mathlib.Omega.{arith}
 use lib.Dec.{leb}
 use lib.IntN.{ℤ}
 use lib.ListN.{length, getD, take, drop, set, length-append, length-drop}
-use lib.Seq.{take-all, take-append-seam, take-append-add, take-suc, take-suc-set, length-take-le, take-nil}
+use lib.Seq.{take-all, take-at, take-append-seam, take-suc, take-suc-set, length-take-le, take-nil}
 use borrow.Author.Tests.{eq-eqb, ne-eqb, leb-true, leb-false}
 use Rattle.ledger.specs.Machine.{Ledger}
 use Rattle.history.specs.Points.{Point}
 use Rattle.lines.specs.Lines.{lineLength, Written}
 use Rattle.lines.specs.Reading.{countOf, readLine}
+use Rattle.fields.specs.Put.{put}
+use Rattle.fields.proofs.PutLaws.{put-part}
+use Rattle.lines.proofs.LinesLaws.{written-fits}
 use Rattle.lines.proofs.ReadingLaws.{few-follow}
 use Rattle.lines.specs.declared.Line.{Line}
 use Rattle.lines.specs.declared.Line.the-variants.{NoCall}
@@ -77,26 +80,16 @@ withBehind out filled ys = take filled out ++ (ys ++ drop (length out - filled) 
 
 -- a text written there
 module _ (out text ys : List ℕ) (filled r : ℕ) (h : filled ≤ length out) (w : Written text (behind out filled) ys r) where
-  front : length (take filled out) ≡ filled
-  front = length-take-le filled out h
-
-  rest : List ℕ
-  rest = drop (length out - filled) (drop filled out)
-
-  kept : List ℕ
-  kept = drop (length text) (behind out filled)
-
   written-behind : take (filled + r) (withBehind out filled ys) ≡ take filled out ++ text
-  unfolding rest kept
+  unfolding put
   written-behind =
-      ap₂ (λ (n : ℕ) (x : List ℕ). take n (take filled out ++ (x ++ rest))) (ap₂ _+_ (sym front) (w .count)) (w .bytes)
-      ∙ take-append-add (take filled out) ((text ++ kept) ++ rest) (length text)
-      ∙ ap (λ (x : List ℕ). take filled out ++ x) (ap (take (length text)) (append-assoc text kept rest) ∙ take-append-seam text (kept ++ rest))
+      ap (take (filled + r)) (ap (withBehind out filled) (w .bytes) ∙ put-part out text filled)
+      ∙ take-at (take filled out ++ text) (drop (filled + length text) out) (filled + r)
+      (length-append (take filled out) text ∙ omega (arith, length-take-le filled out h, w .count))
 
   pub written-within : length ys ≡ length (behind out filled) → filled + r ≤ length out
-  unfolding kept
   written-within e =
-      omega (arith, e, length-take-le (length out - filled) (drop filled out) (omega (arith, length-drop filled out)), w .count, ap length (w .bytes), length-append text kept)
+      omega (arith, e, length-take-le (length out - filled) (drop filled out) (omega (arith, length-drop filled out)), written-fits w)
 
 module _
     (line : List ℕ) (at : Place) (store table store′ table′ : List ℤ) (out ys : List ℕ) (r : ℕ) (h : at .filled ≤ length out) (p : AtPoint store table)

@@ -3,7 +3,7 @@
 use mathlib.Core.Path.{sym}
 use lib.Seq.{length-take-le}
 use borrow.Author.Needs.{needs}
-use Rattle.fleet.proofs.ProgramLaws.{written-fits, written-front}
+use Rattle.lines.proofs.LinesLaws.{written-fits, written-front}
 use Rattle.fleet.proofs.main.Statement.{statement}
 use Rattle.fleet.proofs.main.Tie as tie
 
@@ -26,7 +26,7 @@ array-share-prefix-input c = search needs
 slice-aggregate-write-fleet : tie.Need-slice-aggregate-write-fleet
 slice-aggregate-write-fleet c =
     let r = c .before .before .before .read-input in
-    let long = sym (length-take-le (r .result .held) (r .last .0) (r .ensures)) in
+    let long = sym (length-take-le (r .result .held) (r .last .0) (r .ensures .within)) in
     search needs
 
 write-fleet-requires : tie.Need-write-fleet-requires
@@ -36,7 +36,7 @@ array-share-prefix-input-2 : tie.Need-array-share-prefix-input-2
 array-share-prefix-input-2 c = search needs
 
 slice-aggregate-print : tie.Need-slice-aggregate-print
-slice-aggregate-print c = sym (length-take-le _ _ (reading c .read-input .ensures))
+slice-aggregate-print c = sym (length-take-le _ _ (reading c .read-input .ensures .within))
 
 array-share-prefix-text : tie.Need-array-share-prefix-text
 array-share-prefix-text c = written-fits (c .before .write-fleet .ensures)

@@ -1,10 +1,11 @@
 -- `fleet::read_input` meets its contract. The measure is the room that is left.
 -- Assumes nothing.
-use mathlib.Core.Path.{_≡_, refl, _∙_}
+use mathlib.Core.Path.{_≡_, refl, sym, _∙_}
 use Prim.Native.Nat.{_-_, _≤_}
 use native.Mathlib.Omega.{arith}
 use lib.ListN.{length}
-use borrow.Author.Tests.{not-false}
+use borrow.Author.Tests.{not-true, not-false}
+use Rattle.ints.proofs.Parts.{true-false}
 use Rattle.fleet.proofs.read_input.Statement.{statement}
 use Rattle.fleet.proofs.read_input.Tie as tie
 
@@ -28,7 +29,9 @@ same-length : tie.Need-same-length Inv-loop μ-loop
 same-length c = let r = read (c .before) in r .read-more .kept .0 ∙ r .before .before .before .loop .inv .1
 
 returns : tie.Need-returns Inv-loop μ-loop
-returns c = read (c .before) .read-more .ensures .within
+returns c =
+    let r = read (c .before) .read-more in
+    record { within = r .ensures .within; full = λ more. absurd (true-false (sym more ∙ not-true (r .result .more) (c .if1 .taken))) }
 
 loop-less : tie.Need-loop-less Inv-loop μ-loop
 loop-less c =
@@ -46,7 +49,9 @@ same-length-2 : tie.Need-same-length-2 Inv-loop μ-loop
 same-length-2 c = c .before .loop .inv .1
 
 returns-2 : tie.Need-returns-2 Inv-loop μ-loop
-returns-2 c = c .before .loop .inv .0
+returns-2 c =
+    let held = c .before .loop .inv .0 in
+    record { within = held; full = λ more. omega (arith, held, c .loop-test .left) }
 
 pub read-input-spec : {M : Type 1} → statement M
 read-input-spec =
