@@ -91,7 +91,9 @@ typedef struct float_index_reply {
     size_t rounds;
 } float_index_reply;
 
-/* Opens the index at time t, whatever the buffers held: no float, empty rows. */
+/* Opens the index at time t, whatever the buffers held: no float, empty rows.
+ * Buffers of a version that placed floats by the start of their hour are not
+ * carried over: open them anew. */
 float_index_reply float_index_open(int32_t *store, size_t store_words, int16_t *table,
                                    size_t table_numbers, int32_t t);
 

@@ -1,19 +1,12 @@
 //! The calls that are measured.
 
-use crate::fleet::{fleet, float, time_in};
+use crate::asks::{middle, side_name, HOUR, METHODS, SIDES};
+use crate::fleet::{fleet, float, time_in, FLEETS};
 use crate::measure::{Act, Bench, Times};
 use crate::page::{ASK, SOUNDNESS, WINDOW};
 use crate::twin::{self, At, During, When};
-use buffers::{Words, HELD, NOW, WIDTH};
-use float_index::{Rectangle, Reply, Report, LAST_POSITION, LONGEST_WINDOW, MOST_HELD};
-
-const FLEETS: [usize; 3] = [10, 100, MOST_HELD];
-const METHODS: [&str; 4] = ["naive", "semi-naive", "iterative", "optimal"];
-const WHOLE_SEA: i32 = LAST_POSITION + 1;
-/// The sides of the asked rectangles.
-const SIDES: [i32; 3] = [WIDTH, 1_000_000, WHOLE_SEA];
-/// How far ahead asks look, and how long windows are.
-const HOUR: i32 = LONGEST_WINDOW;
+use buffers::{Words, HELD, NOW};
+use float_index::{Rectangle, Reply, Report, MOST_HELD};
 
 /// A call that changes the buffers, by its numbers.
 type Change<N> = fn(&mut Words, N) -> Reply;
@@ -147,19 +140,8 @@ impl Bench {
     }
 }
 
-/// The square of a side in the middle of the sea.
-fn middle(side: i32) -> Rectangle {
-    let low = (WHOLE_SEA - side) / 2;
-    let high = low + side - 1;
-    Rectangle { low_x: low, low_y: low, high_x: high, high_y: high }
-}
-
 fn ask_name(kind: &str, method: usize, side: i32) -> String {
-    let method = METHODS[method];
-    match side {
-        WHOLE_SEA => format!("{kind}, {method}, whole sea"),
-        _ => format!("{kind}, {method}, side {side}"),
-    }
+    format!("{kind}, {}, {}", METHODS[method], side_name(side))
 }
 
 /// The id of the float in the middle of a fleet.

@@ -2,8 +2,10 @@
 
 use buffers::{Words, PHASE};
 use dice::{scattered, Dice};
-use float_index::{Report, LAST_ID, LAST_POSITION, TOP_SPEED};
+use float_index::{Report, LAST_ID, LAST_POSITION, MOST_HELD, TOP_SPEED};
 
+/// How many floats the fleets have.
+pub const FLEETS: [usize; 3] = [10, 100, MOST_HELD];
 /// The first phase of a fleet, far from the first of all.
 const FIRST: i32 = 10;
 /// Speeds are up to this, but for one float in fifty.

@@ -1,5 +1,7 @@
 //! The page of results.
 
+use crate::asks::{side_name, METHODS};
+use crate::cells::Cells;
 use crate::measure::Times;
 use std::fmt::Write;
 
@@ -38,7 +40,17 @@ time of its short loops by up to a half; so each, of the index and of the twin, 
 bytes. In a host's program it may lie elsewhere. A ratio in bold misses its goal.
 ";
 
-pub fn page(all: &[Times], rounds: usize, runs: usize) -> String {
+const CELLS_READ: &str = "\
+## Cells read
+
+The cells that an ask reads by each method, summed over the three live phases, and the useful ones among them, by
+every method the same. The numbers are means over five times of the index in its third phase: its first second, a
+quarter, half and three quarters of it, and its last second. Fleets and rectangles are those of the times above.
+`cargo run --offline --release -p bench -- --cells` prints this section alone.
+
+";
+
+pub fn page(all: &[Times], cells: &[Cells], rounds: usize, runs: usize) -> String {
     let mut page = String::from(HEAD);
     let cores = std::thread::available_parallelism().map_or(1, usize::from);
     let machine = format!("{} on {}, {cores} cores", std::env::consts::ARCH, std::env::consts::OS);
@@ -55,7 +67,21 @@ pub fn page(all: &[Times], rounds: usize, runs: usize) -> String {
     page += &goal_pass(all);
     page += &goal_window(all);
     page += &goal_growth(all);
-    page
+    page + "\n" + &cells_read(cells)
+}
+
+/// The section on cells read.
+pub fn cells_read(all: &[Cells]) -> String {
+    let methods = METHODS.join(" | ");
+    let mut section = String::from(CELLS_READ);
+    let _ = writeln!(section, "| floats | rectangle | asked time | {methods} | useful |");
+    section += "|---:|---|---|---:|---:|---:|---:|---:|\n";
+    for Cells { floats, side, asked, read, useful } in all {
+        let side = side_name(*side);
+        let read = read.map(|cells| format!("{cells:.1}")).join(" | ");
+        let _ = writeln!(section, "| {floats} | {side} | {asked} | {read} | {useful:.1} |");
+    }
+    section
 }
 
 /// A ratio, in bold where it is past its goal.

@@ -12,7 +12,12 @@ const PACES: [Pace; 8] = {
     use Pace::*;
     [Still, Still, Still, Seconds, Minutes, Border, Jump, Silence]
 };
-const FLEETS: [Fleet; 4] = [Fleet::Any, Fleet::Edges, Fleet::Limits, Fleet::Corner];
+const FLEETS: [Fleet; 5] = {
+    use Fleet::*;
+    [Any, Edges, Limits, Corner, Borders]
+};
+/// The letter of each call.
+pub const LETTERS: &[u8] = b"OCAUDQW";
 
 /// What is known of the index that is called.
 pub struct Setting {
@@ -40,12 +45,17 @@ impl Setting {
     /// A call that changes the index and is most likely accepted.
     pub fn change(&self, dice: &mut Dice) -> Call {
         let letter = dice.pick(b"CAAAUUD");
-        call(letter, &self.numbers(dice, letter)).expect("a letter and its numbers")
+        self.good_call(dice, letter)
     }
 
     /// An ask or a window ask, all its numbers in range.
     pub fn ask(&self, dice: &mut Dice) -> Call {
         let letter = dice.pick(b"QW");
+        self.good_call(dice, letter)
+    }
+
+    /// The call of a letter, all its numbers in range.
+    pub fn good_call(&self, dice: &mut Dice, letter: u8) -> Call {
         call(letter, &self.numbers(dice, letter)).expect("a letter and its numbers")
     }
 

@@ -3,7 +3,7 @@
 //! buffers' own; phases, cells and curve numbers are the ledger's.
 
 use buffers::{rows, Record, Words, KEYS, NOW};
-use plain_ledger::grid::{cell, curve_number};
+use plain_ledger::grid::curve_number;
 use plain_ledger::ledger::{live, slot, Held, Ledger, Report};
 use plain_ledger::limits::{CELLS, PHASE};
 use plain_ledger::methods::{Row, Wrong};
@@ -34,14 +34,25 @@ pub fn keyed(record: &Record) -> Keyed {
     (record[buffers::KEY].into(), report)
 }
 
-/// The key of a report in a phase.
-pub fn key_in(phase: i64, report: &Report) -> i64 {
-    buffers::key(slot(phase), curve_number(cell(report.position(PHASE * phase)))) as i64
+/// The key of a float where it is placed.
+fn key_of(held: &Held) -> i64 {
+    buffers::key(slot(held.phase), curve_number(held.cell)) as i64
 }
 
-/// The words of a ledger.
+/// The right key of a report in a phase.
+pub fn key_in(phase: i64, report: &Report) -> i64 {
+    key_of(&Held::placed(*report, phase, None))
+}
+
+/// Whether a ledger with a wrong rule has placed a float in another cell than the
+/// right one, so that its words are unsound.
+pub fn is_misplaced(ledger: &Ledger) -> bool {
+    ledger.held().any(|held| key_of(held) != key_in(held.phase, &held.report))
+}
+
+/// The words of a ledger, each float where the ledger has placed it.
 pub fn write(ledger: &Ledger) -> Words {
-    let floats = ledger.held().map(|h| record(&(key_in(h.phase, &h.report), h.report)));
+    let floats = ledger.held().map(|held| record(&(key_of(held), held.report)));
     let mut rows = vec![buffers::EMPTY; KEYS];
     for (slot, of_slot) in ledger.rows().iter().enumerate() {
         for (cell, row) in of_slot.iter().enumerate() {
@@ -52,13 +63,13 @@ pub fn write(ledger: &Ledger) -> Words {
     Words::new(small(ledger.now()), floats.collect(), &rows)
 }
 
-/// The ledger of sound words.
+/// The ledger of sound words. A wrong rule places their floats anew.
 pub fn read(words: &Words, wrong: Option<Wrong>) -> Ledger {
     let now = i64::from(words.store[NOW]);
     let held = words.held().iter().map(|record| {
         let (key, report) = keyed(record);
         let of_slot = |p: &i64| slot(*p) == key as usize / CELLS;
-        Held::placed(report, live(now / PHASE).find(of_slot).unwrap_or(0))
+        Held::placed(report, live(now / PHASE).find(of_slot).unwrap_or(0), wrong)
     });
     let row = |slot, cell| {
         let [x, y] = rows(&words.table)[buffers::key(slot, curve_number(cell))];

@@ -1,14 +1,16 @@
 //! What is tried, in parts, each in some runs of its own seed.
 
-use crate::calls::Setting;
+use crate::calls::{Setting, LETTERS};
 use crate::drafts::Draft;
-use crate::ledgers::write;
+use crate::ledgers::{is_misplaced, write};
 use crate::trial::{Difference, Rules, Trial};
 use buffers::{Words, HELD, KEYS, NOW, RECORD_WORDS};
 use dice::Dice;
 use float_index::{STORE_WORDS, TABLE_NUMBERS};
+use plain_ledger::calls::start;
 use plain_ledger::ledger::{Call, Ledger};
 use plain_ledger::limits::{LAST_TIME, MOST_HELD, PHASE, SEA, TOP_SPEED};
+use plain_ledger::methods::Wrong;
 
 type Tried = Result<(), Difference>;
 
@@ -27,10 +29,11 @@ const fn part(first_seed: u64, runs: u64, act: fn(&mut Run) -> Tried, name: &'st
 pub const LISTS: Part = part(8_000, 16, Run::list, "lists of calls");
 
 /// The parts, those that find most first.
-pub const PARTS: [Part; 10] = [
+pub const PARTS: [Part; 11] = [
     part(5_000, 8, Run::flaws, "one clause broken, all else consistent"),
     part(7_000, 8, Run::sound_words, "sound words that no list need lead to"),
     LISTS,
+    part(10_000, 4, Run::old_words, "words of the old rule, placed by the start of a phase"),
     part(3_000, 8, Run::store_words, "every word of a sound store changed"),
     part(4_000, 3, Run::table_numbers, "every number of a sound table changed"),
     part(0, LENGTH_RUNS, Run::store_lengths, "every length of the store, up to 120 past its own"),
@@ -189,6 +192,46 @@ impl Run {
             }
         }
         Ok(())
+    }
+
+    /// Words that an index of the old rule left. They are unsound where the rule
+    /// shows: a float is in another cell at the start of its phase than at its
+    /// reference time.
+    fn old_words(&mut self) -> Tried {
+        let mut counts = [0; 2];
+        for number in 0..100 {
+            let ledger = self.old_ledger(number % 2 == 0);
+            let (words, setting) = (write(&ledger), Setting::of(&ledger));
+            for letter in LETTERS {
+                let call = setting.good_call(&mut self.dice, *letter);
+                let list = setting.list(&mut self.dice);
+                self.trial.call(&words, &call, list)?;
+            }
+            let shows = is_misplaced(&ledger);
+            if shows == self.trial.rules().sound.holds(&words) {
+                return Err(Difference(format!("words of the old rule, which shows: {shows}")));
+            }
+            counts[usize::from(shows)] += 1;
+        }
+        match counts.contains(&0) {
+            true => Err(Difference("the old rule shows always or never".into())),
+            false => Ok(()),
+        }
+    }
+
+    /// A ledger of the old rule after some changes. Floats at rest do not show it.
+    fn old_ledger(&mut self, at_rest: bool) -> Ledger {
+        let mut ledger = Ledger::new(Some(Wrong::OldReference));
+        let t = start(&mut self.dice, 0);
+        ledger.call(&Call::Open { t }, 0);
+        for _ in 0..self.dice.pick(&[1, 2, 3, 10, 100]) {
+            let mut call = Setting::of(&ledger).change(&mut self.dice);
+            if let (true, Call::Add(report) | Call::Report(report)) = (at_rest, &mut call) {
+                report.speed = [0; 2];
+            }
+            ledger.call(&call, 0);
+        }
+        ledger
     }
 
     /// Words of any kind: all random, in narrow ranges, or with a sound head.

@@ -14,6 +14,8 @@ pub const CELLS: usize = SIDE * SIDE;
 pub const WIDTH: i32 = (LAST_POSITION + 1) / SIDE as i32;
 /// The seconds of a phase.
 pub const PHASE: i32 = 3_600;
+/// How long after its start the reference time of a phase lies, in seconds.
+pub const MID_PHASE: i32 = 1_800;
 /// Live phases, and so the parts of the table.
 pub const SLOTS: usize = 3;
 /// Keys are 0 to below this; a record's key is also the number of its row.

@@ -1,9 +1,9 @@
 //! Numbers for calls, from dice: times, places, rectangles, and numbers at the
 //! ends of their ranges and past them.
 
-use crate::ledger::Report;
+use crate::ledger::{reference_time, Report};
 use crate::limits::{ASK_AFTER, ASK_BEFORE, LAST_ID, LAST_METHOD, LAST_TIME};
-use crate::limits::{LONGEST_WINDOW, PHASE, SEA, SIDE, TOP_SPEED, WIDTH};
+use crate::limits::{LONGEST_WINDOW, MID_PHASE, PHASE, SEA, SIDE, TOP_SPEED, WIDTH};
 use crate::lines::{GREATEST, LEAST};
 use dice::Dice;
 
@@ -13,7 +13,8 @@ pub enum Pace {
     Still,
     Seconds,
     Minutes,
-    /// To a phase border, a second before it or a second after it.
+    /// To the start of the next phase or its reference time, a second before it or
+    /// a second after it.
     Border,
     /// Over one to six phases.
     Jump,
@@ -37,31 +38,45 @@ pub enum Fleet {
     Limits,
     /// Nearly at rest in a corner of the sea.
     Corner,
+    /// Within a second's drift of a cell border at the reference time of the
+    /// report's phase.
+    Borders,
 }
 
-/// A time to open at: near a border of the first phases, now, late or any.
+/// The start of a phase or its reference time, a second before it or a second
+/// after it.
+fn phase_time(dice: &mut Dice, phase: i64) -> i64 {
+    let time = dice.pick(&[PHASE * phase, reference_time(phase, None)]);
+    time + dice.pick(&[-1, 0, 0, 1])
+}
+
+/// A time to open at: about one of the first phases, now, late or any.
 pub fn start(dice: &mut Dice, now: i64) -> i64 {
-    let border = PHASE * dice.range(0, 5);
+    let first = dice.range(0, 5);
     let any = dice.range(0, LAST_TIME);
-    let near = [0, 1, border, border + PHASE - 1, border + PHASE / 2, now];
-    match dice.range(0, 9) {
+    let time = match dice.range(0, 9) {
         0 => LAST_TIME - dice.range(0, 9_000),
         1 => any,
-        2 => any / PHASE * PHASE,
-        _ => dice.pick(&near),
-    }
+        2 => phase_time(dice, any / PHASE),
+        3..=6 => phase_time(dice, first),
+        _ => dice.pick(&[0, 1, now]),
+    };
+    time.max(0)
 }
 
 /// A time after now at this pace; it may be below now or past the last time.
 pub fn later(dice: &mut Dice, now: i64, pace: Pace) -> i64 {
-    let border = now / PHASE * PHASE + PHASE;
+    let next = now / PHASE + 1;
     match pace {
         Pace::Still => now,
         Pace::Seconds => now + dice.range(0, 20),
         Pace::Minutes => now + dice.range(0, 1_500),
-        Pace::Border => border + dice.pick(&[-1, 0, 0, 1]),
-        Pace::Jump => border + PHASE * dice.range(0, 5) + dice.pick(&[-1, 0, 1, 999]),
-        Pace::Silence => border + PHASE * dice.range(3, 20_000),
+        Pace::Border => phase_time(dice, next),
+        Pace::Jump => {
+            let phase = next + dice.range(0, 5);
+            phase_time(dice, phase) + dice.pick(&[0, 0, 0, 999])
+        }
+        Pace::Silence => PHASE * (next + dice.range(3, 20_000)),
         Pace::End => now.max(LAST_TIME - dice.range(0, 30_000)),
     }
 }
@@ -99,19 +114,36 @@ fn place(dice: &mut Dice, fleet: Fleet, t: i64, fast: bool) -> (i64, i64) {
             (dice.pick(&[0, 1, SEA - 1, SEA, border, border]), speed)
         }
         Fleet::Corner => (any / 8, any_speed / 40),
+        Fleet::Borders => bordering(dice, any_speed, t),
     }
 }
 
+/// Where a float reports at t that is here at the reference time of that phase.
+fn reported(here: i64, speed: i64, t: i64) -> i64 {
+    here + speed * (t - reference_time(t / PHASE, None))
+}
+
+/// A place and a speed such that at the reference time a float is within a
+/// second's drift of a cell border, often next to it, on either side.
+fn bordering(dice: &mut Dice, any_speed: i64, t: i64) -> (i64, i64) {
+    // From farther out it might report out of the sea.
+    let least = TOP_SPEED * MID_PHASE / WIDTH + 1;
+    let border = WIDTH * dice.range(least, SIDE as i64 - least);
+    let speed = any_speed / dice.pick(&[1, 1, 4, 50]);
+    let drift = speed.abs().max(1);
+    let off = dice.range(-drift, drift - 1);
+    (reported(border + dice.pick(&[-1, 0, off]), speed, t), speed)
+}
+
 /// A place and a speed toward the middle of the sea, such that over some hours
-/// a float falls short of it by about half a cell.
+/// from the reference time on a float falls short of it by about half a cell.
 fn graded(dice: &mut Dice, any: i64, t: i64) -> (i64, i64) {
     let off = any - SEA / 2;
     let hours = dice.pick(&[2, 3, 3, 3]);
     let cells = off.abs() / WIDTH;
     let speed = ((2 * cells - 1) * WIDTH / (2 * hours * PHASE)).clamp(0, TOP_SPEED);
     let speed = -off.signum() * speed;
-    let at = any + speed * (t % PHASE);
-    (at.clamp(0, SEA), speed)
+    (reported(any, speed, t).clamp(0, SEA), speed)
 }
 
 /// From the earliest time that may be asked for to the latest.
@@ -122,12 +154,12 @@ fn askable(now: i64) -> [i64; 2] {
 /// A time that may be asked for.
 fn asked(dice: &mut Dice, now: i64) -> i64 {
     let [earliest, latest] = askable(now);
-    let border = now / PHASE * PHASE + PHASE * dice.range(-2, 2);
+    let phase = now / PHASE + dice.range(-2, 2);
     let time = match dice.range(0, 7) {
         0 => now,
         1 => earliest,
         2 => latest,
-        3 => border + dice.range(-1, 1),
+        3 => phase_time(dice, phase),
         4 | 5 => dice.range(earliest, now),
         _ => dice.range(now, latest),
     };

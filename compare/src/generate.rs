@@ -34,7 +34,7 @@ struct Style {
 }
 
 #[rustfmt::skip]
-const STYLES: [Style; 17] = {
+const STYLES: [Style; 18] = {
     use Fleet::*;
     use Pace::*;
     const fn style(name: &'static str, fleet: Fleet, held: usize, paces: &'static [Pace]) -> Style {
@@ -58,6 +58,7 @@ const STYLES: [Style; 17] = {
         Style { windows: 1_000, refusals: 300, ..style("windows, limits", Limits, 12, &[Still, Still, Seconds, Border, Jump, End]) },
         Style { damage: 500, ..style("damaged lines", Any, 30, &[Seconds, Minutes]) },
         Style { refusals: 600, reopen: 20, ..style("refusals, reopenings", Limits, 8, &[Still, Minutes, Border]) },
+        style("cell borders", Borders, 8, &[Still, Still, Minutes, Border]),
     ]
 };
 

@@ -8,7 +8,7 @@
 
 use crate::grid::{cell, Rectangle};
 use crate::limits::{ASK_AFTER, ASK_BEFORE, CELLS, LAST_ID, LAST_METHOD, LAST_TIME};
-use crate::limits::{LONGEST_WINDOW, MOST_HELD, PHASE, SEA, SLOTS, TOP_SPEED};
+use crate::limits::{LONGEST_WINDOW, MID_PHASE, MOST_HELD, PHASE, SEA, SLOTS, TOP_SPEED};
 use crate::methods::{bounds, Choice, Row, Wrong};
 use std::collections::BTreeMap;
 
@@ -69,8 +69,8 @@ pub struct Held {
 
 impl Held {
     /// The report placed in a phase.
-    pub fn placed(report: Report, phase: i64) -> Held {
-        let cell = cell(report.position(PHASE * phase));
+    pub fn placed(report: Report, phase: i64, wrong: Option<Wrong>) -> Held {
+        let cell = cell(report.position(reference_time(phase, wrong)));
         Held { report, phase, cell }
     }
 }
@@ -83,6 +83,18 @@ pub struct Ledger {
     wrong: Option<Wrong>,
     #[cfg(test)]
     placements: Vec<(i64, usize, [i64; 2])>,
+}
+
+/// The time at whose positions floats are placed in a phase, and from which d is
+/// counted.
+pub fn reference_time(phase: i64, wrong: Option<Wrong>) -> i64 {
+    let after_start = match wrong {
+        Some(Wrong::ReferenceEarly) => MID_PHASE - 1,
+        Some(Wrong::ReferenceLate) => MID_PHASE + 1,
+        Some(Wrong::OldReference) => 0,
+        _ => MID_PHASE,
+    };
+    PHASE * phase + after_start
 }
 
 /// Where the rows of a phase are kept: the remainder by the number of slots.
@@ -295,10 +307,14 @@ impl Ledger {
     }
 
     fn choice(&self, ask: &Ask, phase: i64) -> Choice<'_> {
+        let reference = match self.wrong {
+            Some(Wrong::FromStart) => reference_time(phase, Some(Wrong::OldReference)),
+            wrong => reference_time(phase, wrong),
+        };
         Choice {
             rows: &self.rows[slot(phase)],
             rectangle: ask.rectangle,
-            d: ask.when.ends().map(|time| time - PHASE * phase),
+            d: ask.when.ends().map(|time| time - reference),
             wrong: self.wrong,
         }
     }
@@ -330,7 +346,7 @@ impl Ledger {
     /// Holds the report and places it in the current phase.
     fn place(&mut self, report: &Report) {
         let phase = self.now / PHASE;
-        let held = Held::placed(*report, phase);
+        let held = Held::placed(*report, phase, self.wrong);
         self.held.insert(report.id, held);
         let row = &mut self.rows[slot(phase)][held.cell];
         *row = row.join(Row::one(report.speed));

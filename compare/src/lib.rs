@@ -43,7 +43,8 @@ macro_rules! listed {
     };
 }
 
-/// Document 01's listing: call lines and the answers to them.
+/// Document 01's listing as document 02 changes it: call lines and the answers to
+/// them.
 pub const LISTING: (&str, &str) = (
     "\
 O         0
@@ -58,7 +59,7 @@ D         7        20
 O         0         0
 A         0         1
 A         0         2
-Q         0         2         2         2         0         7         9
+Q         0         2         1         1         0         7         9
 D         0         1
 Q         0         1         3         1         0         9
 D         6         0

@@ -16,6 +16,8 @@ pub const LAST_ID: i64 = 65_535;
 pub const MOST_HELD: usize = 1_024;
 /// The seconds of a phase.
 pub const PHASE: i64 = 3_600;
+/// How long after its start the reference time of a phase lies, in seconds.
+pub const MID_PHASE: i64 = 1_800;
 /// Live phases, and so the remainders by which their rows are kept.
 pub const SLOTS: usize = 3;
 /// How far before now and after now an ask's time may lie.

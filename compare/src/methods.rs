@@ -48,6 +48,15 @@ crate::listed! {
         /// A cell is useful also by a float that is in the rectangle before its
         /// report alone.
         UsefulBefore,
+        /// The reference time of a phase is a second too early.
+        ReferenceEarly,
+        /// The reference time of a phase is a second too late.
+        ReferenceLate,
+        /// d is counted from the phase's start, and floats are placed by its
+        /// reference time.
+        FromStart,
+        /// The reference time of a phase is its start.
+        OldReference,
     }
 }
 

@@ -1,6 +1,6 @@
 //! Speed rows, phases and slots.
 
-use buffers::{rows_mut, Row, CELLS, EMPTY, PHASE, SLOTS};
+use buffers::{rows_mut, Row, CELLS, EMPTY, MID_PHASE, PHASE, SLOTS};
 use float_index::{Report, TOP_SPEED};
 
 pub fn phase_of(t: i32) -> i64 {
@@ -8,7 +8,7 @@ pub fn phase_of(t: i32) -> i64 {
 }
 
 pub fn reference_time(phase: i64) -> i64 {
-    i64::from(PHASE) * phase
+    i64::from(PHASE) * phase + i64::from(MID_PHASE)
 }
 
 pub fn slot_of(phase: i64) -> usize {

@@ -157,7 +157,8 @@ fn read(store: &[i32], table: &[i16]) -> (*const i32, usize, *const i16, usize) 
 // Rust's borrows keep the slices apart and unchanged by others meanwhile.
 
 /// Opens the index at time `t`, whatever the buffers held: no float is held and
-/// every row is empty. Gives 0. Refused with 1 and 3 only.
+/// every row is empty. Gives 0. Refused with 1 and 3 only. Buffers of a version that
+/// placed floats by the start of their hour are not carried over: open them anew.
 pub fn open(store: &mut [i32], table: &mut [i16], t: i32) -> Reply {
     let (s, sn, w, wn) = lent(store, table);
     unsafe { exported::float_index_open(s, sn, w, wn, t) }

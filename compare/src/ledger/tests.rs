@@ -1,9 +1,10 @@
 //! The ledger against document 01's listing, P cases and table of refusals,
-//! against worked asks for windows and for the time before a report, and against
-//! its own definitions on generated lists.
+//! against worked asks for windows and for the time before a report, and, on
+//! generated lists, against its own definitions and the lists of another reference
+//! time.
 
 use super::*;
-use crate::generate::lists;
+use crate::generate::{lists, List};
 use crate::lines::read_call;
 use crate::stream::{answers, serve};
 use crate::LISTING;
@@ -66,7 +67,7 @@ fn p11_cells_and_rounds() {
         let call = Call::Add(report(id, 0, [x, 500], [vx, 0]));
         assert_eq!(ledger.call(&call, 0), Answer::Accepted(id));
     }
-    for (method, cells, rounds) in [(0, 8, 0), (1, 4, 0), (2, 1, 2), (3, 1, 0)] {
+    for (method, cells, rounds) in [(0, 5, 0), (1, 1, 0), (2, 1, 1), (3, 1, 0)] {
         let ask = ask(method, 3_600, [2_621_440, 0], [2_883_583, 1_000]);
         assert_eq!(listed(&mut ledger, ask), (vec![1], cells, 1, rounds));
     }
@@ -77,9 +78,29 @@ fn p12_a_float_is_placed_anew_when_its_phase_dies() {
     let mut ledger = open(0);
     ledger.call(&Call::Add(report(1, 0, [100_000, 0], [100, 0])), 0);
     ledger.call(&Call::Clock { t: 10_799 }, 0);
-    assert_eq!((ledger.held[&1].phase, ledger.held[&1].cell), (0, 0));
+    assert_eq!((ledger.held[&1].phase, ledger.held[&1].cell), (0, 1));
     ledger.call(&Call::Clock { t: 10_800 }, 0);
-    assert_eq!((ledger.held[&1].phase, ledger.held[&1].cell), (3, 4));
+    assert_eq!((ledger.held[&1].phase, ledger.held[&1].cell), (3, 5));
+}
+
+/// A second earlier the first is still in column 0, a second later the other is
+/// there.
+#[test]
+fn a_float_is_placed_by_its_position_in_mid_phase() {
+    for (x, vx) in [(172_144, 50), (352_144, -50)] {
+        let ledger = holding(&[([x, 0], [vx, 0])]);
+        assert_eq!(ledger.held[&1].cell, 1);
+    }
+}
+
+#[test]
+fn the_ends_of_d() {
+    let ds = |now, time| {
+        let ledger = open(now);
+        [0, 1, 2].map(|phase| ledger.choice(&ask(0, time, [0; 2], [0; 2]), phase).d[0])
+    };
+    assert_eq!(ds(7_200, 3_600), [1_800, -1_800, -5_400]);
+    assert_eq!(ds(10_799, 17_999), [16_199, 12_599, 8_999]);
 }
 
 #[test]
@@ -145,7 +166,7 @@ fn a_window_crossed_between_two_seconds() {
 fn a_window_of_one_time_and_one_of_an_hour() {
     let floats = [(1_000_000, 300), (3_000_000, -500), (1_500_000, 0)];
     let mut ledger = holding(&floats.map(|(x, vx)| ([x, 500], [vx, 0])));
-    for (method, one, hour) in [(0, 7, 12), (1, 4, 12), (2, 4, 12), (3, 2, 3)] {
+    for (method, one, hour) in [(0, 2, 9), (1, 2, 9), (2, 2, 9), (3, 1, 2)] {
         for (times, ids, cells) in
             [([1_800; 2], vec![1, 3], one), ([0, 3_600], vec![1, 2, 3], hour)]
         {
@@ -294,6 +315,11 @@ fn refusals_by_what_is_held() {
     assert!(matches!(listed, Answer::Listed { ids, .. } if ids == Vec::from_iter(1..=most)));
 }
 
+/// The calls of a list, in order.
+fn calls(list: &List) -> impl Iterator<Item = Call> + '_ {
+    list.input.split(|byte| *byte == b'\n').filter_map(read_call)
+}
+
 /// The rows are the bounds of the listed placements; whatever the method, the
 /// chosen cells hold every listed float of their phase; and a window of one time
 /// gives what that time gives.
@@ -302,10 +328,7 @@ fn rows_and_choices_in_generated_lists() {
     let mut most_rounds = 0;
     for list in lists(1) {
         let mut ledger = Ledger::new(None);
-        for (number, line) in list.input.split(|byte| *byte == b'\n').enumerate() {
-            let Some(call) = read_call(line) else {
-                continue;
-            };
+        for (number, call) in calls(&list).enumerate() {
             let answer = ledger.call(&call, MOST_HELD);
             if number % 16 == 0 {
                 check_rows(&ledger);
@@ -351,7 +374,8 @@ fn check_choices(ledger: &Ledger, ask: &Ask, ids: &[i64]) -> usize {
     for phase in live(ledger.now / PHASE) {
         let choice = ledger.choice(ask, phase);
         for d in choice.d {
-            assert!((-ASK_BEFORE..PHASE * SLOTS as i64 + ASK_AFTER).contains(&d));
+            let from_start = d + MID_PHASE;
+            assert!((-ASK_BEFORE..PHASE * SLOTS as i64 + ASK_AFTER).contains(&from_start));
         }
         let chosen = [0, 1, 2, 3].map(|method| choice.choose(method));
         let mut inside = vec![0; CELLS];
@@ -376,4 +400,46 @@ fn check_choices(ledger: &Ledger, ask: &Ask, ids: &[i64]) -> usize {
         most_rounds = most_rounds.max(rounds);
     }
     most_rounds
+}
+
+/// With the phase's start for its reference time every call has the same number,
+/// value and ids, also where an ask looks for them in its cells alone.
+#[test]
+fn lists_come_out_as_before() {
+    let mut other_cells = 0;
+    for list in lists(1) {
+        let mut ledgers = [None, Some(Wrong::OldReference)].map(Ledger::new);
+        for call in calls(&list) {
+            let [right, old] = ledgers.each_mut().map(|ledger| ledger.call(&call, MOST_HELD));
+            other_cells += usize::from(right != old);
+            assert_eq!(without_cells(&right), without_cells(&old), "{call:?}");
+            if let (Call::Ask(ask), Answer::Listed { ids, .. }) = (call, right) {
+                let found = ledgers.each_ref().map(|ledger| found(ledger, &ask));
+                assert!(found.iter().all(|found| *found == ids), "{ask:?}");
+            }
+        }
+    }
+    assert!(other_cells > 1_000, "{other_cells}");
+}
+
+fn without_cells(answer: &Answer) -> Answer {
+    match answer {
+        Answer::Listed { ids, .. } => {
+            Answer::Listed { ids: ids.clone(), cells: 0, useful: 0, rounds: 0 }
+        }
+        other => other.clone(),
+    }
+}
+
+/// The ids listed that an ask finds in the cells that it chooses.
+fn found(ledger: &Ledger, ask: &Ask) -> Vec<i64> {
+    let mut chosen = [[false; CELLS]; SLOTS];
+    for phase in live(ledger.now / PHASE) {
+        for cell in ledger.choice(ask, phase).choose(ask.method).cells {
+            chosen[slot(phase)][cell] = true;
+        }
+    }
+    let read = ledger.held().filter(|held| chosen[slot(held.phase)][held.cell]);
+    let listed = read.filter(|held| super::lists(ask, &held.report, None));
+    listed.map(|held| held.report.id).collect()
 }

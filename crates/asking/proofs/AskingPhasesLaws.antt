@@ -3,10 +3,10 @@
 use mathlib.Core.Path.{_≡_, sym, ap, ap₂, _∙_}
 use mathlib.Core.Bool.{Bool, true, false, _&&_, not}
 use mathlib.Core.List.{List·Memᴰ}
-use Prim.Native.Nat.{ℕ, _*_, _≤_, _^_}
+use Prim.Native.Nat.{ℕ, _≤_, _^_}
 use native.Mathlib.Omega.{arith}
 use lib.Dec.{eqb}
-use lib.IntN.{ℤ, pos, natAbs, _+ℤ_, _-ℤ_}
+use lib.IntN.{ℤ, pos, natAbs, negℤ, _+ℤ_, _-ℤ_}
 use lib.ListN.{length}
 use lib.Signed.{leZ}
 use borrow.Author.Tests.{eqb-true, eq-eqb, not-false}
@@ -31,7 +31,7 @@ use Rattle.rows.proofs.TableLaws.{valid-row-at}
 use Rattle.methods.specs.Aims.{seenFrom, viewOf, placedBy, heldBy}
 use Rattle.methods.specs.Fair.{InOrder}
 use Rattle.methods.specs.Slots.{rowsOfSlot}
-use Rattle.methods.specs.Slices.{IsSlice}
+use Rattle.methods.specs.Slices.{earliest, latest, IsSlice}
 use Rattle.reaching.specs.Reaching.{IsAsk, IsViewAsk, CanCountAll}
 use Rattle.methods.specs.Claims.{ValidRows}
 use Rattle.methods.proofs.Claims.{listed-is-read}
@@ -48,6 +48,7 @@ use Rattle.ledger.specs.Refusals.{outOfAskRange, badWhen, badAskTime, badAsk, i
 use Rattle.ledger.specs.declared.Ask.{Ask}
 use Rattle.ledger.proofs.MachineSummedLaws.{summed-same, phases-summed}
 use Rattle.asking.specs.Asking.{choiceOf, marksIn, listedOf, idsNeeded}
+use Rattle.asking.specs.Claims.{EveryDIsInRange}
 
 -- ---- what an ask that is not declined for its numbers asks for
 
@@ -67,6 +68,29 @@ fit-time now t h =
     let near = between (now -ℤ pos 3600) (now +ℤ pos 7200) t in
     let neither = or-neither (not (isTime t)) (not near) h in
     record { is-time = not-false (isTime t) (neither .0); near = not-false near (neither .1) }
+
+-- now is in one of the three phases from a live one on, and such a time is near to now
+d-in-range :
+    (now asked : ℤ) (p : ℕ)
+    → isTime now ≡ true
+    → FitTime now asked
+    → isLive (phaseOf now) p ≡ true
+    → between (negℤ (pos earliest)) (pos latest) (sinceReference p asked) ≡ true
+unfolding referenceTime
+d-in-range now asked p time f live =
+    let t = time-from now time in
+    let range = live-range (phaseOf now) p live in
+    let phase = phase-is now in
+    let low = sub now (pos 3600) in
+    let high = add now (pos 7200) in
+    let since = sub asked (referenceTime p) in
+    let early = le-true (now -ℤ pos 3600) asked (and-left _ (leZ asked (now +ℤ pos 7200)) (f .near)) in
+    let late = le-true asked (now +ℤ pos 7200) (and-right (leZ (now -ℤ pos 3600) asked) _ (f .near)) in
+    let d = sinceReference p asked in
+    and-true (leZ (negℤ (pos earliest)) d) (leZ d (pos latest)) (omega (arith, signed)) (omega (arith, signed))
+
+pub every-d-is-in-range : EveryDIsInRange
+every-d-is-in-range now asked p time h live = d-in-range now asked p time (fit-time now asked h) live
 
 -- all of them
 abbrev pub FitWhen : ℤ → When → Type 0
@@ -142,19 +166,15 @@ module _ (now : ℤ) (query : Query) (fit : FitAsk now query) where
       }
 
   module _ (time : isTime now ≡ true) (p : ℕ) (live : isLive (phaseOf now) p ≡ true) where
-    -- in a live phase d is from -3,600 to 17,999
     fit-slice : (asked : ℤ) → FitTime now asked → IsSlice (record { rect = q; d = sinceReference p asked })
-    unfolding referenceTime
     fit-slice asked f =
-        let t = time-from now time in
-        let range = live-range (phaseOf now) p live in
-        let phase = phase-is now in
-        let low = sub now (pos 3600) in
-        let high = add now (pos 7200) in
-        let d = sub asked (pos (3600 * p)) in
-        let early = le-true (now -ℤ pos 3600) asked (and-left _ (leZ asked (now +ℤ pos 7200)) (f .near)) in
-        let late = le-true asked (now +ℤ pos 7200) (and-right (leZ (now -ℤ pos 3600) asked) _ (f .near)) in
-        record { in-order = fit-in-order; not-early = omega (arith, signed); not-late = omega (arith, signed) }
+        let d = sinceReference p asked in
+        let in-range = d-in-range now asked p time f live in
+        record {
+          in-order = fit-in-order;
+          not-early = and-left (leZ (negℤ (pos earliest)) d) _ in-range;
+          not-late = and-right (leZ (negℤ (pos earliest)) d) _ in-range;
+        }
 
     asked-at : (asked : ℤ) → FitTime now asked → IsAsk (record { rect = q; d = sinceReference p asked })
     asked-at asked f =

@@ -1,16 +1,19 @@
--- What is claimed of asks over every sound store and table, reached or not: S3. Stated over the records alone, with no cells in it.
+-- What is claimed of asks over every sound store and table, reached or not: S3, stated over the records alone, with no cells in it; and the range of d.
 -- Assumes nothing.
 use mathlib.Core.Path.{_≡_}
 use mathlib.Core.Bool.{true, false, cond}
 use mathlib.Core.List.{List, [], _∷_}
 use Prim.Native.Nat.{ℕ}
+use lib.IntN.{ℤ, pos, negℤ}
 use lib.ListN.{length}
-use Rattle.ints.specs.Whole.{up}
-use Rattle.grid.specs.Reports.{isListed}
+use Rattle.ints.specs.Whole.{between, up}
+use Rattle.grid.specs.Reports.{isTime, isListed}
 use Rattle.grid.specs.declared.Query.{Query}
+use Rattle.rows.specs.Phases.{phaseOf, sinceReference, isLive}
+use Rattle.methods.specs.Slices.{earliest, latest}
 use Rattle.records.specs.Words.{Words, timeIn, recordsIn, areSound}
 use Rattle.records.specs.declared.Record.{Record}
-use Rattle.ledger.specs.Refusals.{badAskTime, badAsk}
+use Rattle.ledger.specs.Refusals.{outOfAskRange, badAskTime, badAsk}
 use Rattle.ledger.specs.Machine.{putInOrder}
 use Rattle.ledger.specs.declared.Ask.{Ask}
 use Rattle.asking.specs.Asking.{idsNeeded, idsFound}
@@ -32,3 +35,12 @@ ListIsExact =
     → badAsk ask ≡ false
     → (idsFound w ask ≡ idsInside (ask .query) (recordsIn w))
     × (idsNeeded w ask ≡ length (idsInside (ask .query) (recordsIn w)))
+
+-- A6: d is from -5,400 to 16,199, for each time that an ask may have, in each live phase
+abbrev pub EveryDIsInRange : Type 0
+EveryDIsInRange =
+    (now asked : ℤ) (p : ℕ)
+    → isTime now ≡ true
+    → outOfAskRange now asked ≡ false
+    → isLive (phaseOf now) p ≡ true
+    → between (negℤ (pos earliest)) (pos latest) (sinceReference p asked) ≡ true

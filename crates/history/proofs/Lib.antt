@@ -14,5 +14,6 @@ pub mod Windows
 pub mod ReportTimes
 pub mod LastingRows
 pub mod Claims
+pub mod ListsAsBefore
 pub mod Numbers
 pub mod Points

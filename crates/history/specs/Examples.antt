@@ -8,7 +8,6 @@ use lib.ListN.{replicate}
 use Rattle.ints.specs.Examples.{Example}
 use Rattle.grid.specs.Units.{cells, lastPosition}
 use Rattle.rows.specs.Table.{tableWords}
-use Rattle.methods.specs.Slices.{latest}
 use Rattle.records.specs.Records.{storeWords}
 use Rattle.records.specs.Words.{words}
 use Rattle.ledger.specs.Answers.{numberOf}
@@ -20,7 +19,6 @@ limits =
     ∷ record { given = cells; said = 1024 }
     ∷ record { given = storeWords; said = 7175 }
     ∷ record { given = tableWords; said = 12288 }
-    ∷ record { given = latest; said = 17999 }
     ∷ []
 
 -- buffers of the right lengths; a store whose every word is -1 is unsound

@@ -1,4 +1,4 @@
--- P1 to P12 hold of the definitions jointly: one tabled fact, which antt computes. The listing of document 01 gives the document's answers, and
+-- P1 to P12, and what pins the reference time, hold of the definitions jointly: one tabled fact, which antt computes. The listing of document 01 gives the document's answers, and
 -- so do a worked list with each refusal from 3 on, and a full ledger. Each number from 3 to 8, and 10, is given by a call.
 -- Assumes nothing.
 use mathlib.Core.Path.{_≡_, refl}

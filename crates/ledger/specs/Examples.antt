@@ -1,5 +1,5 @@
--- The P cases of document 01, all twelve, its listing, a worked list with each refusal from 3 on, and each number from 3 on: what the
--- definitions give, and what the documents say.
+-- The P cases of document 01, all twelve, its listing, both as document 02, A6, has them, two facts that pin the reference time, a worked list with each
+-- refusal from 3 on, and each number from 3 on: what the definitions give, and what the documents say.
 -- Assumes nothing.
 use mathlib.Core.List.{List, [], _∷_, _++_}
 use Prim.Native.Nat.{ℕ}
@@ -80,17 +80,23 @@ abbrev pub first : List ℕ → ℕ
 first [] = 1000000
 first (n ∷ ns) = n
 
+-- the column in which a float reported at 0 is placed. Two floats pin the reference time: from second 1,800 on the one is in column 1, up to it the other
+abbrev pub columnOfOne : ℕ → ℤ → ℕ
+columnOfOne x vx = first (columnsPlaced (after (opened (pos 0)) (add (sent 1 0 x 0 vx (pos 0)) ∷ []) .placements))
+
 unfoldable pub examples : List (Example ℕ)
 examples =
     Grid.examples
-    ++ record { given = countsOf (askP11 0) .cells; said = 8 }
-    ∷ record { given = countsOf (askP11 1) .cells; said = 4 }
+    ++ record { given = countsOf (askP11 0) .cells; said = 5 }
+    ∷ record { given = countsOf (askP11 1) .cells; said = 1 }
     ∷ record { given = countsOf (askP11 2) .cells; said = 1 }
     ∷ record { given = countsOf (askP11 3) .cells; said = 1 }
-    ∷ record { given = countsOf (askP11 2) .rounds; said = 2 }
+    ∷ record { given = countsOf (askP11 2) .rounds; said = 1 }
     ∷ record { given = first (phasesHeld (ledgerP12 10799 .held)); said = 0 }
     ∷ record { given = first (phasesHeld (ledgerP12 10800 .held)); said = 3 }
-    ∷ record { given = first (columnsPlaced (ledgerP12 10800 .placements)); said = 4 }
+    ∷ record { given = first (columnsPlaced (ledgerP12 10800 .placements)); said = 5 }
+    ∷ record { given = columnOfOne 172144 (pos 50); said = 1 }
+    ∷ record { given = columnOfOne 352144 (negsuc 49); said = 1 }
     ∷ []
 
 -- the listing after its open at 0, each ask lent a list of 1,024 ids
@@ -108,7 +114,7 @@ unfoldable pub listingSays : List Reply
 listingSays =
     record { answer = Accepted 1; ids = [] }
     ∷ record { answer = Accepted 2; ids = [] }
-    ∷ record { answer = Listed 2 2 2 0; ids = 7 ∷ 9 ∷ [] }
+    ∷ record { answer = Listed 2 1 1 0; ids = 7 ∷ 9 ∷ [] }
     ∷ record { answer = Accepted 1; ids = [] }
     ∷ record { answer = Listed 1 3 1 0; ids = 9 ∷ [] }
     ∷ record { answer = Refused NotHeld; ids = [] }

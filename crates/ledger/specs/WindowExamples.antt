@@ -100,14 +100,14 @@ hourSays =
     held 1
     ∷ held 2
     ∷ held 3
-    ∷ lists 2 7 2 0 (1 ∷ 3 ∷ [])
-    ∷ lists 2 4 2 0 (1 ∷ 3 ∷ [])
-    ∷ lists 2 4 2 1 (1 ∷ 3 ∷ [])
-    ∷ lists 2 2 2 0 (1 ∷ 3 ∷ [])
-    ∷ lists 3 12 3 0 (1 ∷ 2 ∷ 3 ∷ [])
-    ∷ lists 3 12 3 0 (1 ∷ 2 ∷ 3 ∷ [])
-    ∷ lists 3 12 3 1 (1 ∷ 2 ∷ 3 ∷ [])
-    ∷ lists 3 3 3 0 (1 ∷ 2 ∷ 3 ∷ [])
+    ∷ lists 2 2 1 0 (1 ∷ 3 ∷ [])
+    ∷ lists 2 2 1 0 (1 ∷ 3 ∷ [])
+    ∷ lists 2 2 1 1 (1 ∷ 3 ∷ [])
+    ∷ lists 2 1 1 0 (1 ∷ 3 ∷ [])
+    ∷ lists 3 9 2 0 (1 ∷ 2 ∷ 3 ∷ [])
+    ∷ lists 3 9 2 0 (1 ∷ 2 ∷ 3 ∷ [])
+    ∷ lists 3 9 2 1 (1 ∷ 2 ∷ 3 ∷ [])
+    ∷ lists 3 2 2 0 (1 ∷ 2 ∷ 3 ∷ [])
     ∷ []
 
 -- after an open at 3,600: 10 both ways and before 4, 3 before 10, and 4 where the times are good

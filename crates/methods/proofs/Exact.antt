@@ -10,7 +10,7 @@ use lib.IntN.{ℤ, pos, negℤ, natAbs}
 use lib.Signed.{leZ}
 use Rattle.ints.proofs.Parts.{true-false, signed, abs, one-part}
 use Rattle.ints.proofs.Truth.{and-true, and-left, and-right}
-use Rattle.grid.specs.Units.{cellSize, askBefore}
+use Rattle.grid.specs.Units.{cellSize}
 use Rattle.grid.specs.Places.{cellSpan, OnGrid}
 use Rattle.grid.specs.Reports.{inRect}
 use Rattle.grid.specs.declared.Cell.{Cell}
@@ -21,14 +21,14 @@ use Rattle.methods.specs.Reach.{movedSpan, meets, movedCellMeets}
 use Rattle.methods.specs.Aims.{Aim, sliceAim, Placed, ownCell, heldBy, inSlice}
 use Rattle.methods.specs.Fair.{Sees}
 use Rattle.methods.specs.Methods.{Rows, isReached}
-use Rattle.methods.specs.Slices.{latest, IsSlice}
+use Rattle.methods.specs.Slices.{earliest, latest, IsSlice}
 use Rattle.methods.specs.Claims.{ValidRows, Reaches}
 use Rattle.methods.specs.declared.Slice.{Slice}
 use Rattle.methods.proofs.Axis.{meets-leads}
 use Rattle.methods.proofs.Timeslice.{timeslice-sees}
 
 -- d is no greater than a cell is wide
-short : (d : ℤ) → leZ (negℤ (pos askBefore)) d ≡ true → leZ d (pos latest) ≡ true → natAbs d ≤ cellSize
+short : (d : ℤ) → leZ (negℤ (pos earliest)) d ≡ true → leZ d (pos latest) ≡ true → natAbs d ≤ cellSize
 short d h k = omega (arith, signed, abs d, one-part d)
 
 -- a cell with a float that is inside is reached

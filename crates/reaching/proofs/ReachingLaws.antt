@@ -14,18 +14,18 @@ use mir.Val.{hbits, SFits}
 use Rattle.ints.proofs.Parts.{signed, abs, one-part, sub, true-false}
 use Rattle.ints.proofs.Machine.{back, fits, held, both, neither, tested₁}
 use Rattle.ints.proofs.Truth.{and-left, and-right}
-use Rattle.grid.specs.Units.{side, cellSize, lastPosition, speedLimit, lastTime, askBefore}
+use Rattle.grid.specs.Units.{side, cellSize, lastPosition, speedLimit, lastTime}
 use Rattle.grid.specs.Places.{cellSpan, notBelow, notAbove}
 use Rattle.grid.specs.Reports.{isPosition}
 use Rattle.grid.specs.declared.Cell.{Cell}
 use Rattle.grid.specs.declared.Range.{Range}
 use Rattle.grid.specs.declared.Rect.{Rect}
 use Rattle.rows.specs.Row.{validRow}
-use Rattle.rows.specs.Phases.{phaseSeconds, referenceTime, sinceReference}
+use Rattle.rows.specs.Phases.{referenceTime, sinceReference}
 use Rattle.rows.specs.declared.Row.{Row}
 use Rattle.rows.proofs.RowLaws.{Ranged, valid-cases}
 use Rattle.methods.specs.Reach.{expandedRange, expandedRect, aroundRanges, expandedWindow, movedSpan, meets, movedAround, movedAroundMeets}
-use Rattle.methods.specs.Slices.{latest}
+use Rattle.methods.specs.Slices.{earliest, latest}
 use Rattle.reaching.specs.Reaching.{IsAsk, SmallAxis, CanCount}
 use Rattle.methods.specs.declared.Slice.{Slice}
 use Rattle.methods.specs.declared.Window.{Window}
@@ -80,7 +80,7 @@ position-small z h =
     let b = and-right (leZ (pos 0) z) (leZ z (pos lastPosition)) h in
     omega (arith, signed, abs z, one-part z)
 
-d-small : (d : ℤ) → leZ (negℤ (pos askBefore)) d ≡ true → leZ d (pos latest) ≡ true → natAbs d ≤ latest
+d-small : (d : ℤ) → leZ (negℤ (pos earliest)) d ≡ true → leZ d (pos latest) ≡ true → natAbs d ≤ latest
 d-small d h k = omega (arith, signed, abs d, one-part d)
 
 record SmallSpeeds (r : Row) : Type 0 where
@@ -128,7 +128,7 @@ unfolding referenceTime
 since-fits {s} {p} can =
     let low = and-left (leZ (pos 0) s) (leZ s (pos lastTime)) (can .is-time) in
     let high = and-right (leZ (pos 0) s) (leZ s (pos lastTime)) (can .is-time) in
-    fits (omega (arith, signed, sub s (pos (phaseSeconds * p)), one-part s, can .small-phase))
+    fits (omega (arith, signed, sub s (referenceTime p), one-part s, can .small-phase))
 
 -- ---- numbers read back from their bits: u is v widened to 64 bits
 

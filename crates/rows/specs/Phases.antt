@@ -1,4 +1,5 @@
--- Phases of 3,600 seconds, their reference times, which of them are live, and the slot of each: document 01, "Phases and speed rows".
+-- Phases of 3,600 seconds, their reference times, which of them are live, and the slot of each: document 01, "Phases and speed rows", with the
+-- reference time of document 02, A6.
 -- Times are seconds from 0 on.
 -- Assumes nothing.
 use mathlib.Core.Bool.{Bool, _&&_}
@@ -25,9 +26,13 @@ phaseOf (negsuc t) = 0
 abbrev pub lastPhase : ℕ
 lastPhase = lastTime / phaseSeconds
 
+-- how long after its start the reference time of a phase lies: document 02, A6
+abbrev pub midPhase : ℕ
+midPhase = 1800
+
 -- the reference time of a phase. Every d of the methods and every placement goes by it
 unfoldable pub referenceTime : ℕ → ℤ
-referenceTime p = pos (phaseSeconds * p)
+referenceTime p = pos (phaseSeconds * p + midPhase)
 
 -- d: an asked time less the reference time of a phase
 abbrev pub sinceReference : ℕ → ℤ → ℤ

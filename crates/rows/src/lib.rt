@@ -24,6 +24,9 @@ pub use table::widen_row;
 // The length of a phase, in seconds.
 pub const PHASE_SECONDS: usize = 3600;
 
+// How long after its start the reference time of a phase lies, in seconds.
+pub const MID_PHASE: usize = 1800;
+
 // The slots of the table.
 pub const SLOTS: usize = 3;
 

@@ -2,6 +2,7 @@
 ghost use mathlib.Core.Path.{_≡_};
 ghost use Prim.Native.Nat.{_≤_};
 ghost use Rattle.rows.specs.Phases.{phaseOf, lastPhase, referenceTime, isLive, slotOf};
+use crate::MID_PHASE;
 use crate::PHASE_SECONDS;
 use crate::SLOTS;
 
@@ -20,7 +21,7 @@ pub fn reference_time(p: usize) -> i64
     requires { ⌜ p ≤ lastPhase ⌝ }
     ensures { λ r. ⌜ r ≡ referenceTime p ⌝ }
 {
-    (PHASE_SECONDS * p) as i64
+    (PHASE_SECONDS * p + MID_PHASE) as i64
 }
 
 pub fn is_live(c: usize, p: usize) -> bool
