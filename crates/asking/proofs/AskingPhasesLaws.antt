@@ -1,4 +1,5 @@
--- What an ask reads in the live phases of a sound store and table: in each phase exactly the records that are placed in it and are to be listed.
+-- What an ask reads in the live phases of a sound store and table: in each phase exactly the records that are placed in it and are to be listed; and how far from
+-- the reference time of such a phase an asked time may lie.
 -- Assumes nothing.
 use mathlib.Core.Path.{_≡_, sym, ap, ap₂, _∙_}
 use mathlib.Core.Bool.{Bool, true, false, _&&_, not}
