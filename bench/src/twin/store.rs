@@ -47,10 +47,15 @@ fn are_distinct(records: &[Record]) -> bool {
     records.iter().all(|r| std::mem::replace(&mut marks[r[ID] as usize], 1) == 0)
 }
 
+/// In one pass without a branch, as the index does it.
+fn all_zero(words: &[i32]) -> bool {
+    words.iter().fold(true, |zero, w| zero & (*w == 0))
+}
+
 fn is_sound_store(store: &[i32]) -> bool {
     let good_head = (0..=LAST_TIME).contains(&store[NOW])
         && (0..=MOST_HELD as i32).contains(&store[HELD])
-        && store[HELD + 1..RECORD_WORDS].iter().all(|w| *w == 0);
+        && all_zero(&store[HELD + 1..RECORD_WORDS]);
     if !good_head {
         return false;
     }
@@ -58,7 +63,7 @@ fn is_sound_store(store: &[i32]) -> bool {
     used.iter().all(|r| is_sound_record(store[NOW], r))
         && used.is_sorted_by_key(order)
         && are_distinct(used)
-        && unused.as_flattened().iter().all(|w| *w == 0)
+        && all_zero(unused.as_flattened())
 }
 
 #[inline(never)]

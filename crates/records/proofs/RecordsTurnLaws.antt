@@ -30,16 +30,22 @@ zero-at : (w : List ℤ) (i : ℕ) → i < length w → allZero (drop i w) ≡ e
 unfolding every
 zero-at w i h = rw (drop-cons w i (pos 0) h, add-one)
 
-module _ (w : List ℤ) (i : ℕ) (e : allZero w ≡ allZero (drop i w)) where
-  pub not-zero : i < length w → eqZ (getD w i (pos 0)) (pos 0) ≡ false → false ≡ allZero w
-  not-zero h t = sym (e ∙ zero-at w i h ∙ simp t)
+-- zero: whether the words before the i-th are
+module _ (w : List ℤ) (i : ℕ) (zero : Bool) (e : allZero w ≡ zero && allZero (drop i w)) where
+  pub zero-so-far : i < length w → allZero w ≡ (zero && eqZ (getD w i (pos 0)) (pos 0)) && allZero (drop (i + 1) w)
+  zero-so-far h = e ∙ ap (λ (t : Bool). zero && t) (zero-at w i h) ∙ go zero (eqZ (getD w i (pos 0)) (pos 0)) (allZero (drop (i + 1) w))
+    where
+      go : (a b c : Bool) → a && (b && c) ≡ (a && b) && c
+      go true b c = refl
+      go false b c = refl
 
-  pub zero-so-far : i < length w → eqZ (getD w i (pos 0)) (pos 0) ≡ true → allZero w ≡ allZero (drop (i + 1) w)
-  zero-so-far h t = e ∙ zero-at w i h ∙ simp t
-
-  pub zero-to-the-end : length w ≤ i → true ≡ allZero w
+  pub zero-to-the-end : length w ≤ i → zero ≡ allZero w
   unfolding every
-  zero-to-the-end h = sym (e ∙ ap allZero (drop-of-length-le w h))
+  zero-to-the-end h = sym (e ∙ ap (λ (t : Bool). zero && t) (ap allZero (drop-of-length-le w h)) ∙ go zero)
+    where
+      go : (t : Bool) → t && true ≡ t
+      go true = refl
+      go false = refl
 
 -- ---- records
 

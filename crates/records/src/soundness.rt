@@ -63,18 +63,17 @@ pub fn in_range(r: Report) -> bool
     is_between(1, LAST_ID, r.id) && (are_positions(r.x, r.y) && are_speeds(r.vx, r.vy))
 }
 
-// Whether all words are zero, in one pass.
+// Whether all words are zero, in one pass without a branch.
 fn all_zero(words: &[i32]) -> bool
     ensures { λ r. ⌜ r ≡ allZero (now (words .entry)) ⌝ }
 {
+    let mut zero = true;
     let mut i = 0;
     while i < words.len() {
-        if !is_same(words[i], 0) {
-            return false;
-        }
+        zero = zero & is_same(words[i], 0);
         i += 1;
     }
-    true
+    zero
 }
 
 // Whether the key is right for a live phase not before that of t.

@@ -1,26 +1,26 @@
--- `records::soundness::all_zero` meets its contract. The invariant says what is left: all words are zero exactly when those from i on are.
--- The measure is what is left of the words.
+-- `records::soundness::all_zero` meets its contract. The invariant: all words are zero exactly where those before i are, as `zero` says, and those from i
+-- on. The measure is what is left of the words.
 -- Assumes nothing.
 use borrow.Author.Needs.{needs}
-use mathlib.Core.Path.{_≡_, refl, sym, _∙_}
+use mathlib.Core.Path.{_≡_, refl}
+use mathlib.Core.Bool.{_&&_}
 use Prim.Native.Nat.{_≤_, _-_}
 use native.Mathlib.Omega.{arith}
-use borrow.Author.Tests.{not-true, not-false}
 use lib.IntN.{ℤ, pos}
 use lib.ListN.{length, getD, drop}
 use mir.Syntax.{w32}
 use Rattle.ints.specs.Whole.{eqZ}
 use Rattle.ints.proofs.Machine.{tested₁}
 use Rattle.records.specs.Soundness.{allZero}
-use Rattle.records.proofs.RecordsTurnLaws.{not-zero, zero-so-far, zero-to-the-end}
+use Rattle.records.proofs.RecordsTurnLaws.{zero-so-far, zero-to-the-end}
 use Rattle.records.proofs.soundness.all_zero.Statement.{statement}
 use Rattle.records.proofs.soundness.all_zero.Tie as tie
 
 abbrev Inv-loop : tie.InvT-loop
-Inv-loop words i₀ i = (i ≤ length words) × (allZero words ≡ allZero (drop i words))
+Inv-loop words zero₀ i₀ zero i = (i ≤ length words) × (allZero words ≡ zero && allZero (drop i words))
 
 abbrev μ-loop : tie.MeasureT-loop
-μ-loop words i₀ i = length words - i
+μ-loop words zero₀ i₀ zero i = length words - i
 
 loop-holds : tie.Need-loop-holds Inv-loop μ-loop
 loop-holds c = (omega arith, refl)
@@ -40,11 +40,6 @@ test c =
     let at = c .before .before .before in
     tested₁ w32 (λ (z : ℤ). eqZ z (pos 0)) (c .is-same .result) (getD (at .before .args .words .now) (at .loop .i) (pos 0)) (c .is-same .ensures) (c .before .is-same-arg .given)
 
-returns : tie.Need-returns Inv-loop μ-loop
-returns c =
-    let at = c .before .before .before .before in
-    not-zero (at .before .args .words .now) (at .loop .i) (at .loop .inv .1) (omega arith) (sym (test (c .before)) ∙ not-true (c .before .is-same .result) (c .if1 .taken))
-
 add-i : tie.Need-add-i Inv-loop μ-loop
 add-i c = search needs
 
@@ -53,11 +48,13 @@ loop-less c = search needs
 
 loop-again : tie.Need-loop-again Inv-loop μ-loop
 loop-again c =
-    let at = c .before .before .before .before in
-    (omega arith, zero-so-far (at .before .args .words .now) (at .loop .i) (at .loop .inv .1) (omega arith) (sym (test (c .before)) ∙ not-false (c .before .is-same .result) (c .if1 .left)))
+    let at = c .before .before .before in
+    let words = at .before .args .words .now in
+    let further = zero-so-far words (at .loop .i) (at .loop .zero) (at .loop .inv .1) (omega arith) in
+    (omega arith, rw (test c) further)
 
-returns-2 : tie.Need-returns-2 Inv-loop μ-loop
-returns-2 c = zero-to-the-end (c .before .before .args .words .now) (c .before .loop .i) (c .before .loop .inv .1) (omega arith)
+returns : tie.Need-returns Inv-loop μ-loop
+returns c = zero-to-the-end (c .before .before .args .words .now) (c .before .loop .i) (c .before .loop .zero) (c .before .loop .inv .1) (omega arith)
 
 pub all-zero-spec : {M : Type 1} → statement M
 all-zero-spec =
@@ -69,8 +66,7 @@ all-zero-spec =
     mul-is-same
     shared-slice-copy-out-is-same
     is-same-requires
-    returns
     add-i
     loop-less
     loop-again
-    returns-2)
+    returns)
