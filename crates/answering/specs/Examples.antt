@@ -1,5 +1,5 @@
--- The listing of document 01 as the program's input and output, window asks, and an input whose lines are damaged, one of them too long, and whose
--- last line lacks its newline.
+-- The listing of document 01, its answers as document 02, A6, has them, as the program's input and output; window asks; and an input whose lines are
+-- damaged, one of them too long, and whose last line lacks its newline.
 -- Assumes nothing.
 use mathlib.Core.List.{List, [], _∷_, _++_}
 use Prim.Native.Nat.{ℕ}

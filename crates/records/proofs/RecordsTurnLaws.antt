@@ -1,7 +1,7 @@
 -- One turn of each loop over the records of a store: what is left at record i is that record and what is left at record i + 1.
 -- Assumes nothing.
 use mathlib.Core.Path.{_≡_, refl, sym, ap, ap₂, _∙_}
-use mathlib.Core.Bool.{Bool, true, false, _&&_}
+use mathlib.Core.Bool.{Bool, true, false, _&&_, and-assoc, and-true}
 use mathlib.Core.List.{List, [], _∷_}
 use mathlib.Core.Logic.{dite}
 use Prim.Native.Nat.{ℕ, suc, _+_, _-_, _*_, _≤_, _<_}
@@ -33,19 +33,12 @@ zero-at w i h = rw (drop-cons w i (pos 0) h, add-one)
 -- zero: whether the words before the i-th are
 module _ (w : List ℤ) (i : ℕ) (zero : Bool) (e : allZero w ≡ zero && allZero (drop i w)) where
   pub zero-so-far : i < length w → allZero w ≡ (zero && eqZ (getD w i (pos 0)) (pos 0)) && allZero (drop (i + 1) w)
-  zero-so-far h = e ∙ ap (λ (t : Bool). zero && t) (zero-at w i h) ∙ go zero (eqZ (getD w i (pos 0)) (pos 0)) (allZero (drop (i + 1) w))
-    where
-      go : (a b c : Bool) → a && (b && c) ≡ (a && b) && c
-      go true b c = refl
-      go false b c = refl
+  zero-so-far h =
+      e ∙ ap (λ (t : Bool). zero && t) (zero-at w i h) ∙ sym (and-assoc zero (eqZ (getD w i (pos 0)) (pos 0)) (allZero (drop (i + 1) w)))
 
   pub zero-to-the-end : length w ≤ i → zero ≡ allZero w
   unfolding every
-  zero-to-the-end h = sym (e ∙ ap (λ (t : Bool). zero && t) (ap allZero (drop-of-length-le w h)) ∙ go zero)
-    where
-      go : (t : Bool) → t && true ≡ t
-      go true = refl
-      go false = refl
+  zero-to-the-end h = sym (e ∙ ap (λ (t : Bool). zero && t) (ap allZero (drop-of-length-le w h)) ∙ and-true zero)
 
 -- ---- records
 
