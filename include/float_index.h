@@ -53,6 +53,14 @@ extern "C" {
 /* A window's last time is at most so much after its first. */
 #define FLOAT_INDEX_LONGEST_WINDOW 3600
 
+/* A float is silent from so many seconds after its last report on. Every clock
+ * step, also that of an add, a report or a drop, first retires the silent floats:
+ * they are no longer held, and their ids may be added again. Whether an id is
+ * held, whether the store is full and how many floats are held is judged after
+ * that. A refused call retires none. Store and table may be lent with silent
+ * floats; asks list these till the next accepted step. */
+#define FLOAT_INDEX_SILENCE 2592000
+
 /* Stack that a call may need. */
 #define FLOAT_INDEX_STACK_BYTES 262144
 
@@ -73,9 +81,9 @@ enum {
     FLOAT_INDEX_BAD_TIME = 3,      /* out of range, below now, or, for an ask, too far from now */
     FLOAT_INDEX_BAD_WINDOW = 10,   /* window ask: last time before the first, or over an hour after it */
     FLOAT_INDEX_BAD_NUMBER = 4,    /* id, position, speed, method or corner out of range; low above high */
-    FLOAT_INDEX_ALREADY_HELD = 5,  /* add: the id is held */
-    FLOAT_INDEX_NOT_HELD = 6,      /* report, drop: the id is not held */
-    FLOAT_INDEX_FULL = 7,          /* add: 1,024 floats are held */
+    FLOAT_INDEX_ALREADY_HELD = 5,  /* add: the id is held, silent floats retired */
+    FLOAT_INDEX_NOT_HELD = 6,      /* report, drop: the id is not held, or its float is silent */
+    FLOAT_INDEX_FULL = 7,          /* add: 1,024 floats are held, silent floats retired */
     FLOAT_INDEX_LIST_TOO_SHORT = 8 /* ask: the list is shorter than the ids needed */
 };
 
@@ -97,23 +105,25 @@ typedef struct float_index_reply {
 float_index_reply float_index_open(int32_t *store, size_t store_words, int16_t *table,
                                    size_t table_numbers, int32_t t);
 
-/* The clock goes to time t. */
+/* The clock goes to time t, and floats that are silent then retire. */
 float_index_reply float_index_clock(int32_t *store, size_t store_words, int16_t *table,
                                     size_t table_numbers, int32_t t);
 
 /* A float that is not held sends its first report: at time t it was at (x, y)
- * and drifted at (vx, vy). The clock goes to t first. */
+ * and drifted at (vx, vy). The clock goes to t first, so an id whose float is
+ * silent then may be added again. */
 float_index_reply float_index_add(int32_t *store, size_t store_words, int16_t *table,
                                   size_t table_numbers, int32_t id, int32_t t, int32_t x,
                                   int32_t y, int32_t vx, int32_t vy);
 
 /* A held float sends a new report, which replaces the one before. The clock
- * goes to t first. */
+ * goes to t first, and a float that is silent then is no longer held. */
 float_index_reply float_index_report(int32_t *store, size_t store_words, int16_t *table,
                                      size_t table_numbers, int32_t id, int32_t t, int32_t x,
                                      int32_t y, int32_t vx, int32_t vy);
 
-/* A held float is taken out. The clock goes to t first. */
+/* A held float is taken out. The clock goes to t first, and a float that is
+ * silent then is no longer held. */
 float_index_reply float_index_drop(int32_t *store, size_t store_words, int16_t *table,
                                    size_t table_numbers, int32_t id, int32_t t);
 

@@ -1,7 +1,7 @@
 //! The calls that are measured.
 
 use crate::asks::{middle, side_name, HOUR, METHODS, SIDES};
-use crate::fleet::{fleet, float, time_in, FLEETS};
+use crate::fleet::{fleet, float, silent_fleet, time_in, FLEETS};
 use crate::measure::{Act, Bench, Times};
 use crate::page::{ASK, SOUNDNESS, WINDOW};
 use crate::twin::{self, At, During, When};
@@ -18,6 +18,7 @@ impl Bench {
         let fleets = FLEETS.map(|floats| fleet(floats, 3));
         all.extend(fleets.iter().map(|words| self.soundness(words)));
         all.extend(fleets.iter().map(|words| self.same_phase(words)));
+        all.extend(FLEETS.map(|floats| self.half_retire(floats)));
         all.extend(FLEETS.map(|floats| self.no_float_moves(floats)));
         all.extend(FLEETS.map(|floats| self.all_floats_move(floats)));
         all.extend(FLEETS.map(|floats| self.add(floats)));
@@ -68,6 +69,12 @@ impl Bench {
 
     fn same_phase(&self, base: &Words) -> Times {
         self.clock("clock, same phase", base, base.store[NOW] + 1)
+    }
+
+    fn half_retire(&self, floats: usize) -> Times {
+        let base = silent_fleet(floats);
+        let t = base.store[NOW] + 1;
+        self.clock("clock, same phase, every second float retires", &base, t)
     }
 
     fn no_float_moves(&self, floats: usize) -> Times {

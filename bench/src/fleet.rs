@@ -2,7 +2,7 @@
 
 use buffers::{Words, PHASE};
 use dice::{scattered, Dice};
-use float_index::{Report, LAST_ID, LAST_POSITION, MOST_HELD, TOP_SPEED};
+use float_index::{Report, LAST_ID, LAST_POSITION, MOST_HELD, SILENCE, TOP_SPEED};
 
 /// How many floats the fleets have.
 pub const FLEETS: [usize; 3] = [10, 100, MOST_HELD];
@@ -38,6 +38,24 @@ pub fn fleet(floats: usize, phases: usize) -> Words {
         assert!(accepted.is_accepted());
     }
     assert_eq!(accepted.value, floats);
+    words
+}
+
+/// An index with so many floats, in which every second one falls silent in the next
+/// second, which is of the same phase. The others reported a minute later.
+pub fn silent_fleet(floats: usize) -> Words {
+    let first = time_in(0);
+    let mut words = Words::unopened();
+    let mut accepted = float_index::open(&mut words.store, &mut words.table, first);
+    for (odd, t) in [(0, first), (1, first + 60)] {
+        for i in (odd..floats).step_by(2) {
+            accepted = float_index::add(&mut words.store, &mut words.table, float(i, t));
+            assert!(accepted.is_accepted());
+        }
+    }
+    let before = first + SILENCE - 1;
+    let clock = float_index::clock(&mut words.store, &mut words.table, before);
+    assert_eq!([accepted.value, clock.value], [floats; 2]);
     words
 }
 

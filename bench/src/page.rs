@@ -34,10 +34,11 @@ Written by `bench/run`, which builds the proved library and measures it in one r
 Fleets: floats anywhere in the sea, 49 in 50 with speeds up to 30 cm/s and the others up to 500 cm/s, reported
 evenly at the starts of the three live phases. Rectangles lie in the middle of the sea and are asked for an hour
 ahead, or by a window ask for the hour from now on. A phase change with all floats to move has them all in the
-phase that dies. Times are microseconds. All are measured in turn, on fresh copies of the buffers, so that a
-busy machine disturbs them alike; what counts are the ratios. Where a function lies in the program changes the
-time of its short loops by up to a half; so each, of the index and of the twin, is put at a multiple of 64
-bytes. In a host's program it may lie elsewhere. A ratio in bold misses its goal.
+phase that dies. Where every second float retires, the fleet reported thirty days before, every second float a
+minute before the others. Times are microseconds. All are measured in turn, on fresh copies of the buffers, so
+that a busy machine disturbs them alike; what counts are the ratios. Where a function lies in the program
+changes the time of its short loops by up to a half; so each, of the index and of the twin, is put at a multiple
+of 64 bytes. In a host's program it may lie elsewhere. A ratio in bold misses its goal.
 ";
 
 const CELLS_READ: &str = "\

@@ -2,16 +2,29 @@
 //! known.
 
 use dice::Dice;
-use plain_ledger::calls::{ask, later, report, spoiled, Fleet, Pace};
+use plain_ledger::calls::{ask, falls_silent, later, next_silent, report, spoiled, Fleet, Pace};
+use plain_ledger::generate::STEPS;
 use plain_ledger::ledger::{Call, Ledger, Report};
 use plain_ledger::limits::{LAST_ID, LAST_METHOD, LAST_TIME, MOST_HELD};
 use plain_ledger::lines::{call, report_numbers};
 
-/// How time passes, and how floats lie and move, in these calls.
-const PACES: [Pace; 8] = {
+/// How time passes from buffers of any kind on.
+const FAR: &[Pace] = {
     use Pace::*;
-    [Still, Still, Still, Seconds, Minutes, Border, Jump, Silence]
+    &[Still, Still, Still, Seconds, Minutes, Border, Jump, Silence]
 };
+/// How time passes in a list of calls, whose floats would else be silent all at
+/// once.
+const NEAR: &[Pace] = {
+    use Pace::*;
+    &[Still, Still, Still, Seconds, Minutes, Border, Jump]
+};
+/// How time passes while a list's floats become many.
+const GROWING: &[Pace] = {
+    use Pace::*;
+    &[Still, Still, Still, Seconds, Minutes, Border]
+};
+/// How floats lie and move in these calls.
 const FLEETS: [Fleet; 5] = {
     use Fleet::*;
     [Any, Edges, Limits, Corner, Borders]
@@ -23,11 +36,18 @@ pub const LETTERS: &[u8] = b"OCAUDQW";
 pub struct Setting {
     pub now: i64,
     pub floats: Vec<Report>,
+    paces: &'static [Pace],
 }
 
 impl Setting {
+    /// That of buffers of any kind.
+    pub fn any(now: i64, floats: Vec<Report>) -> Setting {
+        Setting { now, floats, paces: FAR }
+    }
+
+    /// That of a list of calls.
     pub fn of(ledger: &Ledger) -> Setting {
-        Setting { now: ledger.now(), floats: ledger.reports().copied().collect() }
+        Setting { now: ledger.now(), floats: ledger.reports().copied().collect(), paces: NEAR }
     }
 
     /// Any call; a sixth of them has a number that is spoiled, or two of them.
@@ -39,13 +59,27 @@ impl Setting {
             let place = dice.below(numbers.len());
             numbers[place] = self.spoiled(dice, letter, &numbers, place);
         }
-        call(letter, &numbers).expect("a letter and its numbers")
+        made(letter, &numbers)
     }
 
     /// A call that changes the index and is most likely accepted.
     pub fn change(&self, dice: &mut Dice) -> Call {
         let letter = dice.pick(b"CAAAUUD");
-        self.good_call(dice, letter)
+        let (id, t) = (self.id(dice, letter == b'A'), self.later(dice, GROWING));
+        made(letter, &step_numbers(dice, letter, id, t))
+    }
+
+    /// A change about the second in which a float falls silent. It names that float,
+    /// another one or none.
+    pub fn retirement(&self, dice: &mut Dice) -> Call {
+        let Some(float) = next_silent(dice, self.now, self.floats.iter()) else {
+            return self.change(dice);
+        };
+        let t = falls_silent(dice, &float).clamp(self.now, LAST_TIME);
+        let letter = dice.pick(STEPS);
+        let others = [self.id(dice, true), self.id(dice, false)];
+        let id = dice.pick(&[float.id, float.id, others[0], others[1]]);
+        made(letter, &step_numbers(dice, letter, id, t))
     }
 
     /// An ask or a window ask, all its numbers in range.
@@ -56,7 +90,7 @@ impl Setting {
 
     /// The call of a letter, all its numbers in range.
     pub fn good_call(&self, dice: &mut Dice, letter: u8) -> Call {
-        call(letter, &self.numbers(dice, letter)).expect("a letter and its numbers")
+        made(letter, &self.numbers(dice, letter))
     }
 
     /// A length for an ask's list: often room for all, else near any length.
@@ -71,22 +105,20 @@ impl Setting {
     fn numbers(&self, dice: &mut Dice, letter: u8) -> Vec<i64> {
         match letter {
             b'O' => vec![dice.range(0, LAST_TIME)],
-            b'C' => vec![self.later(dice)],
-            b'D' => vec![self.id(dice, false), self.later(dice)],
             b'Q' | b'W' => {
                 let method = dice.range(0, LAST_METHOD);
                 [&[method], &ask(dice, self.now, letter, |dice| self.float(dice))[..]].concat()
             }
             _ => {
-                let (id, t) = (self.id(dice, letter == b'A'), self.later(dice));
-                report_numbers(&any_report(dice, id, t)).to_vec()
+                let (id, t) = (self.id(dice, letter == b'A'), self.later(dice, self.paces));
+                step_numbers(dice, letter, id, t)
             }
         }
     }
 
     /// A time not below now.
-    fn later(&self, dice: &mut Dice) -> i64 {
-        let pace = dice.pick(&PACES);
+    fn later(&self, dice: &mut Dice, paces: &[Pace]) -> i64 {
+        let pace = dice.pick(paces);
         later(dice, self.now, pace).max(self.now).min(LAST_TIME)
     }
 
@@ -110,6 +142,20 @@ impl Setting {
             false => dice.pick(&[ends[0], ends[1], -1, 0, old - 1, old + 1]),
         };
         new.clamp(ends[0], ends[1])
+    }
+}
+
+/// The call of a letter and as many numbers as it wants.
+fn made(letter: u8, numbers: &[i64]) -> Call {
+    call(letter, numbers).expect("a letter and its numbers")
+}
+
+/// The numbers of a call that makes a clock step.
+fn step_numbers(dice: &mut Dice, letter: u8, id: i64, t: i64) -> Vec<i64> {
+    match letter {
+        b'C' => vec![t],
+        b'D' => vec![id, t],
+        _ => report_numbers(&any_report(dice, id, t)).to_vec(),
     }
 }
 

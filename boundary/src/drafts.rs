@@ -8,12 +8,14 @@ use dice::{scattered, Dice};
 use float_index::STORE_WORDS;
 use plain_ledger::calls::start;
 use plain_ledger::ledger::{live, Report};
-use plain_ledger::limits::{CELLS, LAST_ID, LAST_TIME, PHASE, SEA, TOP_SPEED};
+use plain_ledger::limits::{CELLS, LAST_ID, LAST_TIME, PHASE, SEA, SILENCE, TOP_SPEED};
 
 /// An index on paper: floats with their keys, and the rows by key.
 #[derive(Clone)]
 pub struct Draft {
     now: i64,
+    /// No float has reported before this time.
+    oldest: i64,
     floats: Vec<Keyed>,
     rows: Vec<Row>,
 }
@@ -22,10 +24,23 @@ impl Draft {
     /// A sound index with so many floats, some rows wider than need be.
     pub fn any(dice: &mut Dice, floats: usize) -> Draft {
         let now = start(dice, 0);
-        let mut draft = Draft { now, floats: Vec::new(), rows: vec![EMPTY; KEYS] };
+        Draft::of(dice, now, floats, Draft::add_any)
+    }
+
+    /// The same with floats of which many are silent, or nearly so.
+    pub fn silent(dice: &mut Dice, floats: usize) -> Draft {
+        let now = (SILENCE + start(dice, 0)).min(LAST_TIME);
+        Draft::of(dice, now, floats, Draft::add_silent)
+    }
+
+    /// An index with this time and so many floats, each added in this way.
+    /// In half of them nobody is silent before the next second.
+    fn of(dice: &mut Dice, now: i64, floats: usize, add: fn(&mut Draft, &mut Dice, i64)) -> Draft {
+        let oldest = dice.pick(&[0, (now - SILENCE + 1).max(0)]);
+        let mut draft = Draft { now, oldest, floats: Vec::new(), rows: vec![EMPTY; KEYS] };
         let first = dice.below(LAST_ID as usize);
         for number in first..first + floats {
-            draft.add_any(dice, scattered(number, LAST_ID as usize) as i64 + 1);
+            add(&mut draft, dice, scattered(number, LAST_ID as usize) as i64 + 1);
         }
         for _ in 0..dice.range(0, 60) {
             let key = dice.below(KEYS) as i64;
@@ -36,12 +51,33 @@ impl Draft {
 
     /// A float in any live phase, reported in it or before it.
     fn add_any(&mut self, dice: &mut Dice, id: i64) {
-        let live: Vec<i64> = live(self.now / PHASE).collect();
-        let phase = dice.pick(&live);
+        let phase = self.live_phase(dice);
         let last = self.now.min(PHASE * phase + PHASE - 1);
         let ago = dice.pick(&[0, 1, 60, PHASE, 3 * PHASE, 1_000_000, LAST_TIME]);
-        let t = (last - dice.range(0, ago)).max(0);
+        let t = (last - dice.range(0, ago)).max(self.oldest);
         self.hold(phase, any_report(dice, id, t));
+    }
+
+    /// Mostly a float that falls silent about now, and so slow that it may be in the
+    /// sea still.
+    fn add_silent(&mut self, dice: &mut Dice, id: i64) {
+        if dice.chance(250) {
+            return self.add_any(dice, id);
+        }
+        let (near, far) = (dice.range(-60, 60), dice.range(-3 * PHASE, 3 * PHASE));
+        let late = dice.pick(&[-1, -1, 0, 0, 1, 1, near, far]);
+        let t = (self.now - SILENCE + late).max(self.oldest);
+        let mut report = any_report(dice, id, t);
+        if dice.chance(700) {
+            report.speed = report.speed.map(i64::signum);
+        }
+        let phase = self.live_phase(dice);
+        self.hold(phase, report);
+    }
+
+    fn live_phase(&self, dice: &mut Dice) -> i64 {
+        let live: Vec<i64> = live(self.now / PHASE).collect();
+        dice.pick(&live)
     }
 
     /// Holds a report in a phase, its row widened.
@@ -62,7 +98,7 @@ impl Draft {
     }
 
     pub fn setting(&self) -> Setting {
-        Setting { now: self.now, floats: self.floats.iter().map(|(_, report)| *report).collect() }
+        Setting::any(self.now, self.floats.iter().map(|(_, report)| *report).collect())
     }
 
     pub fn words(&self) -> Words {

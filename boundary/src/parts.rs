@@ -27,12 +27,16 @@ const fn part(first_seed: u64, runs: u64, act: fn(&mut Run) -> Tried, name: &'st
 }
 
 pub const LISTS: Part = part(8_000, 16, Run::list, "lists of calls");
+pub const RETIREMENTS: Part =
+    part(12_000, 8, Run::retirements, "lists of calls in which floats retire");
 
 /// The parts, those that find most first.
-pub const PARTS: [Part; 11] = [
+pub const PARTS: [Part; 13] = [
     part(5_000, 8, Run::flaws, "one clause broken, all else consistent"),
     part(7_000, 8, Run::sound_words, "sound words that no list need lead to"),
+    part(11_000, 8, Run::silent_words, "sound words with silent floats"),
     LISTS,
+    RETIREMENTS,
     part(10_000, 4, Run::old_words, "words of the old rule, placed by the start of a phase"),
     part(3_000, 8, Run::store_words, "every word of a sound store changed"),
     part(4_000, 3, Run::table_numbers, "every number of a sound table changed"),
@@ -194,6 +198,29 @@ impl Run {
         Ok(())
     }
 
+    /// Words with floats that are silent, or will be when the next call is made. Every
+    /// call is tried on them, and more of those that retire floats or list them.
+    fn silent_words(&mut self) -> Tried {
+        for _ in 0..100 {
+            let floats = self.dice.pick(&[1, 2, 3, 10, 30, 300, MOST_HELD, MOST_HELD]);
+            let draft = Draft::silent(&mut self.dice, floats);
+            let (words, setting) = (draft.words(), draft.setting());
+            for letter in LETTERS {
+                let call = setting.good_call(&mut self.dice, *letter);
+                let list = setting.list(&mut self.dice);
+                self.trial.call(&words, &call, list)?;
+            }
+            for _ in 0..8 {
+                let step = setting.retirement(&mut self.dice);
+                self.trial.call(&words, &step, 0)?;
+                let ask = setting.ask(&mut self.dice);
+                self.trial.call(&words, &ask, MOST_HELD)?;
+                self.try_any(&words, &setting)?;
+            }
+        }
+        Ok(())
+    }
+
     /// Words that an index of the old rule left. They are unsound where the rule
     /// shows: a float is in another cell at the start of its phase than at its
     /// reference time.
@@ -248,37 +275,64 @@ impl Run {
                 store[NOW] = self.dice.range(0, LAST_TIME) as i32;
             }
             let now = i64::from(store[NOW]).clamp(0, LAST_TIME);
-            self.try_any(&Words { store, table }, &Setting { now, floats: Vec::new() })?;
+            self.try_any(&Words { store, table }, &Setting::any(now, Vec::new()))?;
         }
         Ok(())
     }
 
     /// A list of calls after an open, the words of each handed to the next.
     fn list(&mut self) -> Tried {
+        self.list_with(0)
+    }
+
+    /// Such a list, in which time goes on from one retirement to the next.
+    fn retirements(&mut self) -> Tried {
+        self.list_with(150)
+    }
+
+    /// Such a list, with retirements so often in a thousand calls.
+    fn list_with(&mut self, retirements: i64) -> Tried {
         let mut ledger = Ledger::new(self.trial.rules().wrong);
         let most = [30, 3, 100, MOST_HELD][self.seed as usize % 4];
         let t = PHASE * self.dice.range(0, 4) + self.dice.range(0, PHASE - 1);
         let words = write(&ledger);
         let mut words = self.trial.next(&mut ledger, words, &Call::Open { t }, 0)?;
-        while ledger.held().len() < most && most > 100 {
-            words = self.next_call(&mut ledger, words, true)?;
-        }
+        words = self.fill(&mut ledger, words, most)?;
         for _ in 0..1_000 {
-            let grow = ledger.held().len() < most && self.dice.chance(300);
-            words = self.next_call(&mut ledger, words, grow)?;
+            words = if ledger.held().len() < most && self.dice.chance(300) {
+                self.next_call(&mut ledger, words, Setting::change)?
+            } else if self.dice.chance(retirements) {
+                let words = self.fill(&mut ledger, words, most)?;
+                self.next_call(&mut ledger, words, Setting::retirement)?
+            } else {
+                self.next_call(&mut ledger, words, Setting::call)?
+            };
         }
         Ok(())
+    }
+
+    /// Changes of a list until so many are held, where these are many.
+    fn fill(
+        &mut self,
+        ledger: &mut Ledger,
+        mut words: Words,
+        most: usize,
+    ) -> Result<Words, Difference> {
+        while ledger.held().len() < most && most > 100 {
+            words = self.next_call(ledger, words, Setting::change)?;
+        }
+        Ok(words)
     }
 
     fn next_call(
         &mut self,
         ledger: &mut Ledger,
         words: Words,
-        grow: bool,
+        call: fn(&Setting, &mut Dice) -> Call,
     ) -> Result<Words, Difference> {
         let setting = Setting::of(ledger);
         let dice = &mut self.dice;
-        let mut call = if grow { setting.change(dice) } else { setting.call(dice) };
+        let mut call = call(&setting, dice);
         let list = setting.list(dice);
         // An open would empty the index, and a list has few of them.
         if matches!(call, Call::Open { .. }) && !dice.chance(30) {

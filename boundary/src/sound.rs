@@ -1,10 +1,10 @@
 //! Whether a store and a table are sound: document 01's sentence "Sound means",
 //! one clause at a time, with no code of the index in it. A clause can be left
-//! out, to see whether the buffers tried would show it.
+//! out, or one more put in, to see whether the buffers tried would show it.
 
 use crate::ledgers::{key_in, keyed, Keyed};
 use buffers::{records, rows, Row, Words, EMPTY, HELD, NOW, RECORD_WORDS};
-use plain_ledger::ledger::{live, slot, Report};
+use plain_ledger::ledger::{is_silent, live, slot, Report};
 use plain_ledger::limits::{CELLS, LAST_ID, LAST_TIME, MOST_HELD, PHASE, SEA, TOP_SPEED};
 
 plain_ledger::listed! {
@@ -32,10 +32,12 @@ plain_ledger::listed! {
     }
 }
 
-/// The test, with one clause left out or none.
-#[derive(Clone, Copy)]
+/// The test, with one clause left out or none, and whether silent floats are a flaw.
+/// They are none: a store may be lent late.
+#[derive(Clone, Copy, Debug)]
 pub struct Sound {
     pub without: Option<Clause>,
+    pub refuses_silence: bool,
 }
 
 impl Sound {
@@ -80,6 +82,7 @@ impl Sound {
             && self.check(Clause::Speeds, speed.iter().all(|v| v.abs() <= TOP_SPEED))
             && self.check(Clause::TimesFromZero, *t >= 0)
             && self.check(Clause::TimesToNow, *t <= now)
+            && !(self.refuses_silence && is_silent(*t, now))
             && self.key(now, *key, report)
     }
 

@@ -5,7 +5,7 @@ use crate::ledgers::{read, small, told, write};
 use crate::sound::Sound;
 use buffers::Words;
 use float_index::{refusal, Rectangle, Reply};
-use plain_ledger::ledger::{Answer, Call, Ledger, When};
+use plain_ledger::ledger::{is_silent, Answer, Call, Ledger, When};
 use plain_ledger::methods::Wrong;
 
 /// The rules that the index is compared with: the documents', or wrong ones.
@@ -66,6 +66,52 @@ pub type Given = [usize; refusal::BAD_WINDOW + 1];
 /// The number below the greatest that no call gives: a line's that is no call.
 pub const NO_CALL: usize = 9;
 
+/// How often silent floats came up on sound buffers.
+#[derive(Clone, Copy, Default)]
+pub struct Silent {
+    /// Floats that retired.
+    pub floats: usize,
+    /// Calls in which floats retired.
+    pub steps: usize,
+    /// Asks that listed a silent float.
+    pub asks: usize,
+    /// Refused changes at whose time a float was silent.
+    pub refused: usize,
+}
+
+impl Silent {
+    /// Counts what came of a call, before which so many had retired.
+    fn count(&mut self, ledger: &Ledger, retired: usize, call: &Call, answer: &Answer) {
+        let gone = ledger.retired().saturating_sub(retired);
+        self.floats += gone;
+        self.steps += usize::from(gone > 0);
+        let t = call.step_time().unwrap_or(ledger.now());
+        let mut silent = ledger.reports().filter(|report| is_silent(report.t, t));
+        match answer {
+            Answer::Listed { ids, .. } => {
+                self.asks += usize::from(silent.any(|report| ids.contains(&report.id)));
+            }
+            Answer::Refused(..) if call.step_time().is_some() => {
+                self.refused += usize::from(silent.next().is_some());
+            }
+            _ => {}
+        }
+    }
+
+    pub fn all(&self) -> [usize; 4] {
+        [self.floats, self.steps, self.asks, self.refused]
+    }
+}
+
+impl std::ops::AddAssign for Silent {
+    fn add_assign(&mut self, other: Silent) {
+        self.floats += other.floats;
+        self.steps += other.steps;
+        self.asks += other.asks;
+        self.refused += other.refused;
+    }
+}
+
 pub struct Trial {
     rules: Rules,
     store: Lent<i32>,
@@ -73,6 +119,7 @@ pub struct Trial {
     list: Lent<u16>,
     /// Buffers tried so far, by the number that the call on them gave.
     pub given: Given,
+    pub silent: Silent,
 }
 
 impl Trial {
@@ -83,6 +130,7 @@ impl Trial {
             table: Lent::new(-77),
             list: Lent::new(777),
             given: Given::default(),
+            silent: Silent::default(),
         }
     }
 
@@ -112,7 +160,7 @@ impl Trial {
                 true => Ledger::new(wrong),
                 false => read(words, wrong),
             };
-            expected(&mut ledger, call, list)
+            self.expected(&mut ledger, call, list)
         };
         self.compare(words, call, list, &expected)
     }
@@ -128,9 +176,31 @@ impl Trial {
         if !self.rules.sound.holds(&before) {
             return Err(Difference("a list of calls led to unsound words".into()));
         }
-        let expected = expected(ledger, call, list);
+        let expected = self.expected(ledger, call, list);
         self.compare(&before, call, list, &expected)?;
         Ok(expected.words.unwrap_or(before))
+    }
+
+    /// What the ledger says of a call on sound buffers.
+    fn expected(&mut self, ledger: &mut Ledger, call: &Call, list: usize) -> Expected {
+        let retired = ledger.retired();
+        let answer = ledger.call(call, list);
+        self.silent.count(ledger, retired, call, &answer);
+        match answer {
+            Answer::Refused(number, value) => Expected {
+                // By the right rules nobody has retired, and no word changes.
+                words: (ledger.retired() > retired).then(|| write(ledger)),
+                ..refused(number as usize, value as usize)
+            },
+            Answer::Accepted(held) => {
+                Expected { words: Some(write(ledger)), ..refused(0, held as usize) }
+            }
+            Answer::Listed { ids, cells, useful, rounds } => Expected {
+                reply: Reply { number: 0, value: ids.len(), cells, useful, rounds },
+                words: None,
+                ids: ids.iter().map(|id| *id as u16).collect(),
+            },
+        }
     }
 
     fn compare(
@@ -166,21 +236,6 @@ impl Trial {
 fn refused(number: usize, value: usize) -> Expected {
     let reply = Reply { number, value, ..Reply::default() };
     Expected { reply, words: None, ids: Vec::new() }
-}
-
-/// What the ledger says of a call on sound buffers.
-fn expected(ledger: &mut Ledger, call: &Call, list: usize) -> Expected {
-    match ledger.call(call, list) {
-        Answer::Refused(number, value) => refused(number as usize, value as usize),
-        Answer::Accepted(held) => {
-            Expected { words: Some(write(ledger)), ..refused(0, held as usize) }
-        }
-        Answer::Listed { ids, cells, useful, rounds } => Expected {
-            reply: Reply { number: 0, value: ids.len(), cells, useful, rounds },
-            words: None,
-            ids: ids.iter().map(|id| *id as u16).collect(),
-        },
-    }
 }
 
 /// Makes the call of the index.

@@ -36,6 +36,7 @@ pub type Record = [i32; RECORD_WORDS];
 
 pub const KEY: usize = 0;
 pub const ID: usize = 1;
+pub const TIME: usize = 2;
 
 /// For each axis the least and the greatest speed.
 pub type Row = [[i16; 2]; ROW_NUMBERS / 2];

@@ -1,9 +1,9 @@
 //! Numbers for calls, from dice: times, places, rectangles, and numbers at the
 //! ends of their ranges and past them.
 
-use crate::ledger::{reference_time, Report};
+use crate::ledger::{is_silent, reference_time, Report};
 use crate::limits::{ASK_AFTER, ASK_BEFORE, LAST_ID, LAST_METHOD, LAST_TIME};
-use crate::limits::{LONGEST_WINDOW, MID_PHASE, PHASE, SEA, SIDE, TOP_SPEED, WIDTH};
+use crate::limits::{LONGEST_WINDOW, MID_PHASE, PHASE, SEA, SIDE, SILENCE, TOP_SPEED, WIDTH};
 use crate::lines::{GREATEST, LEAST};
 use dice::Dice;
 
@@ -18,7 +18,8 @@ pub enum Pace {
     Border,
     /// Over one to six phases.
     Jump,
-    /// Over up to 20,000 phases.
+    /// Over up to 700 phases, after which a float that sent nothing may be held still,
+    /// or now and then over up to 20,000.
     Silence,
     /// To the last hours that there are.
     End,
@@ -76,9 +77,32 @@ pub fn later(dice: &mut Dice, now: i64, pace: Pace) -> i64 {
             let phase = next + dice.range(0, 5);
             phase_time(dice, phase) + dice.pick(&[0, 0, 0, 999])
         }
-        Pace::Silence => PHASE * (next + dice.range(3, 20_000)),
+        Pace::Silence => {
+            let most = dice.pick(&[700, 700, 700, 20_000]);
+            PHASE * (next + dice.range(3, most))
+        }
         Pace::End => now.max(LAST_TIME - dice.range(0, 30_000)),
     }
+}
+
+/// The float that falls silent next, or now and then one of the ten next.
+pub fn next_silent<'a>(
+    dice: &mut Dice,
+    now: i64,
+    floats: impl Iterator<Item = &'a Report>,
+) -> Option<Report> {
+    let mut floats: Vec<&Report> = floats.filter(|float| !is_silent(float.t, now)).collect();
+    floats.sort_by_key(|float| float.t);
+    let any = dice.below(floats.len().clamp(1, 10));
+    floats.get(dice.pick(&[0, 0, 0, 0, 0, 0, 0, any])).copied().copied()
+}
+
+/// A time about the second in which a float falls silent: that second, the one
+/// before it or the one after it, or some phases later. It may be below now or past
+/// the last time.
+pub fn falls_silent(dice: &mut Dice, float: &Report) -> i64 {
+    let phases = dice.pick(&[0, 0, 0, 0, 0, 1, 2, 5]);
+    float.t + SILENCE + PHASE * phases + dice.pick(&[-1, 0, 0, 1])
 }
 
 /// A report of a float that lies and moves so.

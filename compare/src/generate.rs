@@ -1,22 +1,53 @@
 //! Lists of call lines from fixed seeds.
 //!
 //! Each list has a style: how its floats lie and move, how time passes, how
-//! many are held, how often it asks, damages a line, breaks a rule or reopens.
+//! many are held, how often it asks, damages a line, breaks a rule, reopens or
+//! goes to the second in which a float falls silent.
 //! A ledger runs along, so that most calls are accepted and asks can aim at
 //! floats. The same number always gives the same lists.
 
-use crate::calls::{ask, later, report, spoiled, start, Fleet, Pace};
+use crate::calls::{ask, falls_silent, later, next_silent, report, spoiled, start};
+use crate::calls::{Fleet, Pace};
 use crate::ledger::{Ledger, Report};
 use crate::limits::{LAST_ID, LAST_METHOD, LAST_TIME, MOST_HELD, SEA, TOP_SPEED};
 use crate::lines::{report_numbers, write_line, COLUMNS, LONGEST};
 use crate::stream::{answers, Stream};
 use dice::Dice;
 
-/// A list of lines, as the bytes of a file, and the ledger's answers to it.
+/// A list of lines, as the bytes of a file, the ledger's answers to it, and what
+/// retires in it.
 pub struct List {
     pub style: &'static str,
     pub input: Vec<u8>,
     pub answers: Vec<u8>,
+    pub retired: Retired,
+}
+
+/// The letters of the calls that make a clock step.
+pub const STEPS: &[u8; 4] = b"CAUD";
+
+/// The floats that retire, and the calls in which some do, by letter.
+#[derive(Clone, Copy, Default)]
+pub struct Retired {
+    pub floats: usize,
+    pub calls: [usize; STEPS.len()],
+}
+
+impl Retired {
+    /// So many more floats, in a call of this letter.
+    fn count(&mut self, letter: u8, floats: usize) {
+        let steps = STEPS.iter().zip(&mut self.calls);
+        let own = steps.filter(|(step, _)| **step == letter && floats > 0);
+        own.for_each(|(_, calls)| *calls += 1);
+        self.floats += floats;
+    }
+}
+
+impl std::ops::AddAssign for Retired {
+    fn add_assign(&mut self, other: Retired) {
+        self.floats += other.floats;
+        self.calls.iter_mut().zip(other.calls).for_each(|(sum, calls)| *sum += calls);
+    }
 }
 
 #[derive(Clone, Copy)]
@@ -31,17 +62,20 @@ struct Style {
     damage: i64,
     refusals: i64,
     reopen: i64,
+    retirements: i64,
 }
 
 #[rustfmt::skip]
-const STYLES: [Style; 18] = {
+const STYLES: [Style; 21] = {
     use Fleet::*;
     use Pace::*;
     const fn style(name: &'static str, fleet: Fleet, held: usize, paces: &'static [Pace]) -> Style {
-        Style { name, fleet, held, paces, asks: 500, windows: 300, damage: 10, refusals: 20, reopen: 1 }
+        Style { name, fleet, held, paces, asks: 500, windows: 300, damage: 10, refusals: 20, reopen: 1, retirements: 0 }
     }
     [
         style("mixed", Any, 60, &[Still, Seconds, Seconds, Seconds, Minutes, Border, Jump]),
+        Style { retirements: 100, ..style("retirements", FewFast, 30, &[Still, Still, Seconds, Minutes, Border]) },
+        Style { retirements: 300, ..style("retirements, limits", Limits, 5, &[Still, Seconds, Border, Jump]) },
         style("phase borders", Any, 25, &[Still, Still, Still, Border]),
         style("jumps", Any, 40, &[Still, Still, Still, Still, Seconds, Jump]),
         style("silences", Any, 30, &[Still, Still, Still, Still, Still, Minutes, Border, Silence]),
@@ -59,6 +93,7 @@ const STYLES: [Style; 18] = {
         Style { damage: 500, ..style("damaged lines", Any, 30, &[Seconds, Minutes]) },
         Style { refusals: 600, reopen: 20, ..style("refusals, reopenings", Limits, 8, &[Still, Minutes, Border]) },
         style("cell borders", Borders, 8, &[Still, Still, Minutes, Border]),
+        Style { asks: 250, reopen: 0, retirements: 250, ..style("retirements, full", FewFast, MOST_HELD, &[Still, Still, Still, Seconds]) },
     ]
 };
 
@@ -106,14 +141,15 @@ fn short_lists() -> Vec<List> {
         }
     }
     let style = "short";
-    let list = |input: Vec<u8>| List { style, answers: answers(&input, None), input };
+    let retired = Retired::default();
+    let list = |input: Vec<u8>| List { style, answers: answers(&input, None), input, retired };
     inputs.into_iter().map(list).collect()
 }
 
 /// A file of 200,000 report lines over a full fleet.
 pub fn many_reports() -> Vec<u8> {
     let mut maker = Maker::new(1_000_001);
-    maker.settle(MOST_HELD);
+    maker.settle(MOST_HELD, Fleet::Any, Pace::Still);
     for t in 0..200_000 {
         let id = maker.held_id();
         maker.sight(b'U', Fleet::Any, id, t);
@@ -125,7 +161,7 @@ pub fn many_reports() -> Vec<u8> {
 /// fleet in three phases.
 pub fn many_asks(letter: u8) -> Vec<u8> {
     let mut maker = Maker::new(1_000_002);
-    maker.settle(MOST_HELD);
+    maker.settle(MOST_HELD, Fleet::Any, Pace::Still);
     for number in 0..MOST_HELD as i64 {
         let id = maker.held_id();
         maker.sight(b'U', Fleet::Any, id, 10 * number);
@@ -143,6 +179,9 @@ struct Maker {
     lines: usize,
     mirror: Stream,
     answers: Vec<u8>,
+    retired: Retired,
+    /// The float that fell silent last, or will next, for asks to aim at.
+    silent: Option<Report>,
 }
 
 impl Maker {
@@ -153,13 +192,19 @@ impl Maker {
             lines: 0,
             mirror: Stream::new(None),
             answers: Vec::new(),
+            retired: Retired::default(),
+            silent: None,
         }
     }
 
     fn raw(&mut self, line: &[u8]) {
+        let before = self.mirror.ledger().retired();
         self.input.extend_from_slice(line);
         self.mirror.feed(line, &mut self.answers);
         self.lines += 1;
+        // An open counts from 0 again.
+        let after = self.mirror.ledger().retired();
+        self.retired.count(line[0], after.saturating_sub(before));
     }
 
     fn put(&mut self, letter: u8, numbers: &[i64]) {
@@ -189,7 +234,8 @@ impl Maker {
 
     fn list(mut self, style: &Style) -> List {
         if style.held == MOST_HELD {
-            self.fill_up();
+            let pace = if style.retirements > 0 { Pace::Minutes } else { Pace::Still };
+            self.fill_up(style.fleet, pace);
         } else if self.dice.chance(700) {
             self.reopen();
         }
@@ -201,7 +247,8 @@ impl Maker {
         if self.dice.chance(500) {
             self.input.pop();
         }
-        List { style: style.name, input: self.input, answers: self.answers }
+        let Maker { input, answers, retired, .. } = self;
+        List { style: style.name, input, answers, retired }
     }
 
     /// One or a few lines in a style.
@@ -212,6 +259,8 @@ impl Maker {
             self.damage(style.fleet);
         } else if self.dice.chance(style.refusals) {
             self.refusal(style.fleet);
+        } else if self.dice.chance(style.retirements) {
+            self.retirement(style);
         } else if self.dice.chance(style.asks) {
             self.ask(style);
         } else {
@@ -255,6 +304,45 @@ impl Maker {
         }
     }
 
+    /// A change about the second in which a float falls silent, or two of them, a
+    /// second apart. It names that float, another one or none. A full store is full
+    /// again before that.
+    fn retirement(&mut self, style: &Style) {
+        if style.held == MOST_HELD {
+            self.settle(MOST_HELD, style.fleet, Pace::Still);
+        }
+        let ledger = self.mirror.ledger();
+        let next = next_silent(&mut self.dice, ledger.now(), ledger.reports());
+        let Some(float) = next else {
+            return self.change(style);
+        };
+        let t = falls_silent(&mut self.dice, &float).max(self.now());
+        if t >= LAST_TIME {
+            return self.reopen();
+        }
+        self.silent = Some(float);
+        let letter = self.dice.pick(STEPS);
+        let others = [self.held_id(), self.new_id()];
+        let id = self.dice.pick(&[float.id, float.id, others[0], others[1]]);
+        for t in t..=t + self.dice.range(0, 1) {
+            let mut numbers = self.step_numbers(letter, style.fleet, id, t);
+            if self.dice.chance(50) {
+                let place = self.dice.below(numbers.len());
+                numbers[place] = spoiled(&mut self.dice, t, letter, &numbers, place);
+            }
+            self.put(letter, &numbers);
+        }
+    }
+
+    /// The numbers of a call that makes a clock step.
+    fn step_numbers(&mut self, letter: u8, fleet: Fleet, id: i64, t: i64) -> Vec<i64> {
+        match letter {
+            b'C' => vec![t],
+            b'D' => vec![id, t],
+            _ => report_numbers(&report(&mut self.dice, fleet, id, t)).to_vec(),
+        }
+    }
+
     /// An id that is most likely not held.
     fn new_id(&mut self) -> i64 {
         match self.dice.range(0, 3) {
@@ -284,8 +372,12 @@ impl Maker {
     }
 
     fn ask_numbers(&mut self, letter: u8) -> Vec<i64> {
-        let ledger = self.mirror.ledger();
-        ask(&mut self.dice, ledger.now(), letter, |dice| any_held(ledger, dice))
+        let (ledger, silent) = (self.mirror.ledger(), self.silent);
+        let aim = |dice: &mut Dice| match silent {
+            Some(_) if dice.chance(250) => silent,
+            _ => any_held(ledger, dice),
+        };
+        ask(&mut self.dice, ledger.now(), letter, aim)
     }
 
     /// The letter and numbers of a call in range.
@@ -293,15 +385,14 @@ impl Maker {
         let letter = self.dice.pick(b"OCDAAUUQQWW");
         let t = self.later(&[Pace::Still, Pace::Seconds]);
         let numbers = match letter {
-            b'O' | b'C' => vec![t],
-            b'D' => vec![self.held_id(), t],
+            b'O' => vec![t],
             b'Q' | b'W' => {
                 let numbers = self.ask_numbers(letter);
                 [&[self.dice.range(0, LAST_METHOD)], &numbers[..]].concat()
             }
             _ => {
                 let id = self.held_id();
-                report_numbers(&report(&mut self.dice, fleet, id, t)).to_vec()
+                self.step_numbers(letter, fleet, id, t)
             }
         };
         (letter, numbers)
@@ -355,19 +446,22 @@ impl Maker {
         self.raw(&line);
     }
 
-    /// Adds floats at the present time until so many are held.
-    fn settle(&mut self, held: usize) {
+    /// Adds floats at this pace until so many are held.
+    fn settle(&mut self, held: usize, fleet: Fleet, pace: Pace) {
         while self.held() < held {
             let id = self.new_id();
-            self.sight(b'A', Fleet::Any, id, self.now());
+            if self.mirror.ledger().reports().all(|report| report.id != id) {
+                let t = self.later(&[pace]);
+                self.sight(b'A', fleet, id, t);
+            }
         }
     }
 
     /// The full store and the one float too many.
-    fn fill_up(&mut self) {
-        self.settle(MOST_HELD - 1);
+    fn fill_up(&mut self, fleet: Fleet, pace: Pace) {
+        self.settle(MOST_HELD - 1, fleet, pace);
         for _ in 0..8 {
-            self.settle(MOST_HELD);
+            self.settle(MOST_HELD, fleet, pace);
             let ids: Vec<i64> = self.mirror.ledger().reports().map(|r| r.id).collect();
             let free = (1..=LAST_ID).rfind(|id| !ids.contains(id)).unwrap_or(0);
             let held = self.held_id();

@@ -8,7 +8,7 @@
 
 use crate::grid::{cell, Rectangle};
 use crate::limits::{ASK_AFTER, ASK_BEFORE, CELLS, LAST_ID, LAST_METHOD, LAST_TIME};
-use crate::limits::{LONGEST_WINDOW, MID_PHASE, MOST_HELD, PHASE, SEA, SLOTS, TOP_SPEED};
+use crate::limits::{LONGEST_WINDOW, MID_PHASE, MOST_HELD, PHASE, SEA, SILENCE, SLOTS, TOP_SPEED};
 use crate::methods::{bounds, Choice, Row, Wrong};
 use std::collections::BTreeMap;
 
@@ -49,6 +49,17 @@ pub enum Call {
     Ask(Ask),
 }
 
+impl Call {
+    /// The time that a call's clock step goes to, where it makes one.
+    pub fn step_time(&self) -> Option<i64> {
+        match self {
+            Call::Clock { t } | Call::Drop { t, .. } => Some(*t),
+            Call::Add(report) | Call::Report(report) => Some(report.t),
+            Call::Open { .. } | Call::Ask(_) => None,
+        }
+    }
+}
+
 #[derive(Clone, Debug, PartialEq, Eq)]
 pub enum Answer {
     /// An accepted open or change and its value.
@@ -80,6 +91,10 @@ pub struct Ledger {
     held: BTreeMap<i64, Held>,
     /// The rows of a phase stand at its slot.
     rows: [Vec<Row>; SLOTS],
+    /// No held float reported before this time.
+    oldest: i64,
+    /// How many floats have retired since the open.
+    retired: usize,
     wrong: Option<Wrong>,
     #[cfg(test)]
     placements: Vec<(i64, usize, [i64; 2])>,
@@ -132,8 +147,17 @@ fn ask_in_range(ask: &Ask) -> bool {
         && (0..2).all(|axis| low[axis] <= high[axis])
 }
 
-/// Whether an ask lists the float of a held report.
+/// Whether a float that reported last at this time is lost at time t.
+pub fn is_silent(reported: i64, t: i64) -> bool {
+    reported + SILENCE <= t
+}
+
+/// Whether an ask lists the float of a held report. A silent one is held, and
+/// listed, till a clock step retires it.
 fn lists(ask: &Ask, report: &Report, wrong: Option<Wrong>) -> bool {
+    if wrong == Some(Wrong::SilentUnlisted) && is_silent(report.t, ask.when.ends()[1]) {
+        return false;
+    }
     match ask.when {
         When::At(time) => report.is_in_at(&ask.rectangle, time, wrong),
         When::During { .. } => report.is_in_during(&ask.rectangle, ask.when.ends(), wrong),
@@ -147,6 +171,8 @@ impl Ledger {
             now: 0,
             held: BTreeMap::new(),
             rows: [0; SLOTS].map(|_| vec![Row::EMPTY; CELLS]),
+            oldest: 0,
+            retired: 0,
             wrong,
             #[cfg(test)]
             placements: Vec::new(),
@@ -183,6 +209,11 @@ impl Ledger {
         &self.rows
     }
 
+    /// How many floats have retired since the open.
+    pub fn retired(&self) -> usize {
+        self.retired
+    }
+
     /// The held reports, ids rising.
     pub fn reports(&self) -> impl ExactSizeIterator<Item = &Report> {
         self.held.values().map(|held| &held.report)
@@ -190,7 +221,8 @@ impl Ledger {
 
     /// One call; for an ask, `list` is the length of its answer list.
     pub fn call(&mut self, call: &Call, list: usize) -> Answer {
-        let value = match call {
+        let retired = self.retired;
+        let done = match call {
             Call::Open { t } => self.open(*t),
             Call::Clock { t } => self.clock(*t),
             Call::Add(report) => self.add(report),
@@ -204,10 +236,28 @@ impl Ledger {
                 Err(number) => Err(number),
             },
         };
-        match value {
-            Ok(()) => Answer::Accepted(self.held.len() as i64),
-            Err(number) => Answer::Refused(number, 0),
+        match done {
+            Ok(()) => self.accepted(retired),
+            Err(number) => self.refused(call, number),
         }
+    }
+
+    /// The answer to an open or change, before which so many had retired.
+    fn accepted(&self, retired: usize) -> Answer {
+        let more = match self.wrong {
+            Some(Wrong::CountBefore) => self.retired.saturating_sub(retired),
+            _ => 0,
+        };
+        Answer::Accepted((self.held.len() + more) as i64)
+    }
+
+    /// The answer to a call that is refused with this number; it changes nothing.
+    fn refused(&mut self, call: &Call, number: i64) -> Answer {
+        let retires = self.wrong == Some(Wrong::RefusedRetires) && number > 3;
+        if let (true, Some(t)) = (retires, call.step_time()) {
+            self.retire(t);
+        }
+        Answer::Refused(number, 0)
     }
 
     fn open(&mut self, t: i64) -> Result<(), i64> {
@@ -225,8 +275,8 @@ impl Ledger {
     fn add(&mut self, report: &Report) -> Result<(), i64> {
         self.check_time(report.t)?;
         check(report_in_range(report), 4)?;
-        check(!self.held.contains_key(&report.id), 5)?;
-        check(self.held.len() < MOST_HELD, 7)?;
+        check(!self.is_left(report.id, report.t, Wrong::FreeBefore), 5)?;
+        check(self.has_room(report.t), 7)?;
         self.step(report.t);
         self.place(report);
         Ok(())
@@ -235,7 +285,7 @@ impl Ledger {
     fn report(&mut self, report: &Report) -> Result<(), i64> {
         self.check_time(report.t)?;
         check(report_in_range(report), 4)?;
-        check(self.held.contains_key(&report.id), 6)?;
+        check(self.is_left(report.id, report.t, Wrong::HeldBefore), 6)?;
         self.step(report.t);
         self.place(report);
         Ok(())
@@ -244,16 +294,21 @@ impl Ledger {
     fn drop(&mut self, id: i64, t: i64) -> Result<(), i64> {
         self.check_time(t)?;
         check(id_in_range(id), 4)?;
-        check(self.held.contains_key(&id), 6)?;
+        check(self.is_left(id, t, Wrong::HeldBefore), 6)?;
         self.step(t);
+        self.remove(id, Wrong::NarrowedDrop);
+        Ok(())
+    }
+
+    /// Takes out a float. Its row stays, but by this wrong rule.
+    fn remove(&mut self, id: i64, narrowing: Wrong) {
         let gone = self.held.remove(&id);
-        if let (Some(Wrong::NarrowedDrop), Some(gone)) = (self.wrong, gone) {
+        if let (true, Some(gone)) = (self.wrong == Some(narrowing), gone) {
             let left = self.held.values();
             let left = left.filter(|held| held.phase == gone.phase && held.cell == gone.cell);
             let left: Vec<Row> = left.map(|held| Row::one(held.report.speed)).collect();
             self.rows[slot(gone.phase)][gone.cell] = bounds(&left);
         }
-        Ok(())
     }
 
     /// One time is never before itself, so 10 is for windows alone.
@@ -323,8 +378,60 @@ impl Ledger {
         check((self.now..=LAST_TIME).contains(&t), 3)
     }
 
-    /// The clock step to t, which is not below now.
+    /// Whether a clock step to t leaves a float held that reported at this time.
+    fn stays(&self, reported: i64, t: i64) -> bool {
+        match self.wrong {
+            Some(Wrong::NoneRetires) => true,
+            Some(Wrong::RetiredByPhase) if t / PHASE == self.now / PHASE => true,
+            Some(Wrong::RetiredEarly) => !is_silent(reported, t + 1),
+            Some(Wrong::RetiredLate) => !is_silent(reported, t - 1),
+            _ => !is_silent(reported, t),
+        }
+    }
+
+    /// Whether a clock step to t leaves a float with this id, or, by this wrong
+    /// rule, whether there is one before it.
+    fn is_left(&self, id: i64, t: i64, before: Wrong) -> bool {
+        let held = self.held.get(&id);
+        held.is_some_and(|held| self.wrong == Some(before) || self.stays(held.report.t, t))
+    }
+
+    /// Whether a clock step to t leaves room for one more.
+    fn has_room(&self, t: i64) -> bool {
+        let before = self.wrong == Some(Wrong::FullBefore);
+        let left = self.reports().filter(|report| before || self.stays(report.t, t));
+        left.count() < MOST_HELD
+    }
+
+    /// The clock step to t, which is not below now: silent floats retire, then
+    /// those of dead phases are placed anew.
     fn step(&mut self, t: i64) {
+        if self.wrong == Some(Wrong::RetiredPlaced) {
+            self.go_on(t);
+            self.retire(t);
+        } else {
+            self.retire(t);
+            self.go_on(t);
+        }
+    }
+
+    /// Takes out the floats that a clock step to t does not leave.
+    fn retire(&mut self, t: i64) {
+        // In most steps nobody goes, which is known without a look at each float.
+        if self.stays(self.oldest, t) {
+            return;
+        }
+        let silent = self.reports().filter(|report| !self.stays(report.t, t));
+        let silent: Vec<i64> = silent.map(|report| report.id).collect();
+        for id in &silent {
+            self.remove(*id, Wrong::NarrowedRetirement);
+        }
+        self.retired += silent.len();
+        self.oldest = self.reports().map(|report| report.t).min().unwrap_or(self.now);
+    }
+
+    /// The time goes to t, which is not below now, with the floats that are held.
+    fn go_on(&mut self, t: i64) {
         let (before, c) = (self.now / PHASE, t / PHASE);
         self.now = t;
         if c == before {

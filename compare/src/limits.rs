@@ -18,6 +18,8 @@ pub const MOST_HELD: usize = 1_024;
 pub const PHASE: i64 = 3_600;
 /// How long after its start the reference time of a phase lies, in seconds.
 pub const MID_PHASE: i64 = 1_800;
+/// A float that has sent nothing for so many seconds is lost.
+pub const SILENCE: i64 = 2_592_000;
 /// Live phases, and so the remainders by which their rows are kept.
 pub const SLOTS: usize = 3;
 /// How far before now and after now an ask's time may lie.

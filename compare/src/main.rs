@@ -34,7 +34,7 @@ mod programs;
 
 use fleet_runs::{compare_fleets, fleet_mutants};
 use plain_ledger::fleets::{written, ORDER};
-use plain_ledger::generate::{lists, many_asks, many_reports, List};
+use plain_ledger::generate::{lists, many_asks, many_reports, List, Retired, STEPS};
 use plain_ledger::grid::curve_number;
 use plain_ledger::limits::SIDE;
 use plain_ledger::lines::{COLUMNS, LONGEST};
@@ -130,6 +130,13 @@ fn write_lists(folder: &str) {
     write("windows".into(), &many_asks(b'W'));
 }
 
+fn print_retired(retired: &Retired) {
+    let calls = STEPS.iter().zip(retired.calls);
+    let calls: Vec<String> = calls.map(|(letter, n)| format!("{} {n}", *letter as char)).collect();
+    let (floats, all) = (retired.floats, retired.calls.iter().sum::<usize>());
+    println!("floats retired {floats}, in {all} calls: {}", calls.join(", "));
+}
+
 /// Counts the answers by their number.
 fn count_numbers(answers: &[u8], counts: &mut [usize; NUMBERS]) {
     for answer in answers.split_inclusive(|byte| *byte == b'\n') {
@@ -177,6 +184,7 @@ impl Run {
         let mut styles: BTreeMap<&str, (usize, usize)> = BTreeMap::new();
         let mut numbers = [0; NUMBERS];
         let mut windows = 0;
+        let mut retired = Retired::default();
         for (index, list) in lists(seeds).enumerate() {
             let style = list.style;
             or_fail(fs::write(self.folder.join("input"), &list.input), "writing");
@@ -189,6 +197,7 @@ impl Run {
             entry.0 += 1;
             entry.1 += count(b'\n');
             windows += count(b'W');
+            retired += list.retired;
             count_numbers(&list.answers, &mut numbers);
         }
         for (style, (lists, lines)) in &styles {
@@ -199,6 +208,7 @@ impl Run {
         let (refused, bad_windows) = (&numbers[3..8], numbers[10]);
         print!("accepted {accepted}, refused 3 to 7 {refused:?}, 10 {bad_windows}");
         println!(", no call {}; window asks {windows}", numbers[9]);
+        print_retired(&retired);
         println!("{lines} lines the same in {:.1} s", start.elapsed().as_secs_f64());
     }
 
@@ -310,13 +320,16 @@ mod tests {
     #[test]
     fn the_lists_are_long_and_hold_every_answer() {
         let mut numbers = [0; NUMBERS];
+        let mut retired = Retired::default();
         for list in lists(SEEDS) {
             count_numbers(&list.answers, &mut numbers);
+            retired += list.retired;
         }
         assert!(numbers.iter().sum::<usize>() >= 200_000);
         for (number, count) in numbers.into_iter().enumerate() {
             assert_eq!(count > 100, ![1, 2, 8].contains(&number), "{number}");
         }
+        assert!(retired.calls.iter().all(|calls| *calls > 100), "{:?}", retired.calls);
     }
 
     #[test]

@@ -57,6 +57,31 @@ crate::listed! {
         FromStart,
         /// The reference time of a phase is its start.
         OldReference,
+        /// No float retires.
+        NoneRetires,
+        /// A float retires when it has sent nothing for a second less.
+        RetiredEarly,
+        /// A float retires when it has sent nothing for a second more.
+        RetiredLate,
+        /// Floats retire only where the phase changes.
+        RetiredByPhase,
+        /// An add looks whether its id is held before silent floats retire.
+        FreeBefore,
+        /// A report or drop looks whether its id is held before silent floats
+        /// retire.
+        HeldBefore,
+        /// An add looks whether there is room before silent floats retire.
+        FullBefore,
+        /// The value of a change counts the floats that retired in it too.
+        CountBefore,
+        /// A silent float is placed anew before it retires.
+        RetiredPlaced,
+        /// A row narrows when a float placed in it retires.
+        NarrowedRetirement,
+        /// A change that is refused, but not for its time, retires silent floats.
+        RefusedRetires,
+        /// An ask does not list a float that is silent by its last time.
+        SilentUnlisted,
     }
 }
 

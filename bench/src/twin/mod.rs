@@ -9,7 +9,7 @@ mod store;
 
 use buffers::{record, Words, CELLS, EMPTY, HELD, NOW};
 use float_index::{method, refusal, Rectangle, Reply, Report};
-use float_index::{ASK_AFTER, ASK_BEFORE, LAST_POSITION, LAST_TIME, LONGEST_WINDOW, MOST_HELD};
+use float_index::{ASK_AFTER, ASK_BEFORE, LAST_POSITION, LAST_TIME, LONGEST_WINDOW};
 use grid::Rect;
 use methods::Choice;
 use motion::Query;
@@ -56,6 +56,7 @@ fn check_step(words: &Words, t: i32) -> Checked {
 
 /// The clock step to t, which is not below now.
 fn step(words: &mut Words, t: i32) {
+    store::retire(&mut words.store, t);
     let (before, c) = (phase_of(words.store[NOW]), phase_of(t));
     if c > before {
         rows::empty_newly_live(&mut words.table, before, c);
@@ -98,8 +99,8 @@ fn check_report(words: &Words, r: &Report) -> Checked {
 
 fn check_add(words: &Words, r: &Report) -> Checked {
     check_report(words, r)?;
-    check(!store::has_id(words, r.id), refusal::ALREADY_HELD)?;
-    check((words.store[HELD] as usize) < MOST_HELD, refusal::FULL)
+    check(!store::leaves_id(words, r.id, r.t), refusal::ALREADY_HELD)?;
+    check(store::leaves_room(words, r.t), refusal::FULL)
 }
 
 #[inline(never)]
@@ -112,13 +113,13 @@ pub fn add(words: &mut Words, r: Report) -> Reply {
     reply(checked, words)
 }
 
-fn check_held(words: &Words, id: i32) -> Checked {
-    check(store::has_id(words, id), refusal::NOT_HELD)
+fn check_held(words: &Words, id: i32, t: i32) -> Checked {
+    check(store::leaves_id(words, id, t), refusal::NOT_HELD)
 }
 
 #[inline(never)]
 pub fn report(words: &mut Words, r: Report) -> Reply {
-    let checked = check_report(words, &r).and_then(|()| check_held(words, r.id));
+    let checked = check_report(words, &r).and_then(|()| check_held(words, r.id, r.t));
     if checked.is_ok() {
         step(words, r.t);
         store::remove(&mut words.store, r.id);
@@ -130,7 +131,7 @@ pub fn report(words: &mut Words, r: Report) -> Reply {
 fn check_drop(words: &Words, id: i32, t: i32) -> Checked {
     check_step(words, t)?;
     check(store::is_id(id), refusal::BAD_NUMBER)?;
-    check_held(words, id)
+    check_held(words, id, t)
 }
 
 #[inline(never)]

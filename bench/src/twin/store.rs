@@ -1,11 +1,11 @@
-//! The records: soundness, changes, the phase change, reading.
+//! The records: soundness, changes, retirement, the phase change, reading.
 
 use super::grid::{column, curve_number};
 use super::motion::{position, Query, When};
 use super::rows::{first_live, holds, is_valid, join, phase_of, reference_time, row_of, slot_of};
 use buffers::{key, order, records, records_mut, report, rows, rows_mut};
-use buffers::{Record, Words, CELLS, HELD, ID, KEY, KEYS, NOW, RECORD_WORDS, SLOTS};
-use float_index::{Report, LAST_ID, LAST_POSITION, LAST_TIME, MOST_HELD, TOP_SPEED};
+use buffers::{Record, Words, CELLS, HELD, ID, KEY, KEYS, NOW, RECORD_WORDS, SLOTS, TIME};
+use float_index::{Report, LAST_ID, LAST_POSITION, LAST_TIME, MOST_HELD, SILENCE, TOP_SPEED};
 
 /// Ids are below this.
 pub const IDS: usize = LAST_ID as usize + 1;
@@ -77,8 +77,44 @@ pub fn is_sound(words: &Words) -> bool {
 
 // ---- changes
 
-pub fn has_id(words: &Words, id: i32) -> bool {
-    words.held().iter().any(|r| r[ID] == id)
+/// Whether a clock step to t leaves a float held.
+fn stays(r: &Record, t: i32) -> bool {
+    t - SILENCE < r[TIME]
+}
+
+/// Whether a clock step to t leaves a float with this id.
+pub fn leaves_id(words: &Words, id: i32, t: i32) -> bool {
+    words.held().iter().find(|r| r[ID] == id).is_some_and(|r| stays(r, t))
+}
+
+/// How many floats a clock step to t leaves, in one pass without a branch.
+fn left(records: &[Record], t: i32) -> usize {
+    records.iter().fold(0, |left, r| left + u32::from(stays(r, t))) as usize
+}
+
+/// Whether a clock step to t leaves room for one more.
+pub fn leaves_room(words: &Words, t: i32) -> bool {
+    let held = words.held();
+    held.len() < MOST_HELD || left(held, t) < MOST_HELD
+}
+
+/// Takes out the floats that a clock step to t does not leave. Where it leaves all
+/// of them, no record is moved.
+pub fn retire(store: &mut [i32], t: i32) {
+    let n = store[HELD] as usize;
+    let left = left(&records(store)[..n], t);
+    if left == n {
+        return;
+    }
+    let records = records_mut(store);
+    let mut kept = 0;
+    for i in 0..n {
+        let r = records[i];
+        records[kept] = r;
+        kept += usize::from(stays(&r, t));
+    }
+    records[left..n].fill([0; RECORD_WORDS]);
+    store[HELD] = left as i32;
 }
 
 pub fn insert(store: &mut [i32], new: Record) {

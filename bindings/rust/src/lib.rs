@@ -8,6 +8,13 @@
 //! whole numbers. The index lives in two buffers that the caller lends: a store
 //! of [`STORE_WORDS`] words and a table of [`TABLE_NUMBERS`] numbers.
 //!
+//! A float that has sent nothing for [`SILENCE`] seconds is silent. Every clock
+//! step, also that of an [`add`], a [`report`] or a [`drop`], first retires the
+//! silent floats: they are no longer held, and their ids may be added again.
+//! Whether an id is held, whether the store is full and how many floats are held
+//! is judged after that. A refused call retires none. Store and table may be lent
+//! with silent floats; asks list these till the next accepted step.
+//!
 //! Every call takes any numbers, and buffers of any length with any content. It
 //! either does its whole work, or gives the number of a refusal and leaves
 //! store, table and list as they were. Checks run in the order in which the
@@ -35,6 +42,9 @@ pub const ASK_BEFORE: i32 = 3_600;
 pub const ASK_AFTER: i32 = 7_200;
 /// How far after its first time a window's last time may lie, in seconds.
 pub const LONGEST_WINDOW: i32 = 3_600;
+/// A float is silent from so many seconds after its last report on, and retires in
+/// the next clock step.
+pub const SILENCE: i32 = 2_592_000;
 /// Stack that a call may need.
 pub const STACK_BYTES: usize = 262_144;
 
@@ -62,11 +72,11 @@ pub mod refusal {
     pub const BAD_WINDOW: usize = 10;
     /// Id, position, speed, method or corner out of its range; low above high.
     pub const BAD_NUMBER: usize = 4;
-    /// Add: the id is held.
+    /// Add: the id is held, after silent floats have retired.
     pub const ALREADY_HELD: usize = 5;
-    /// Report, drop: the id is not held.
+    /// Report, drop: the id is not held, after silent floats have retired.
     pub const NOT_HELD: usize = 6;
-    /// Add: [`crate::MOST_HELD`] floats are held.
+    /// Add: [`crate::MOST_HELD`] floats are held, after silent ones have retired.
     pub const FULL: usize = 7;
     /// Ask: the list is shorter than the ids needed.
     pub const LIST_TOO_SHORT: usize = 8;
@@ -165,6 +175,8 @@ pub fn open(store: &mut [i32], table: &mut [i16], t: i32) -> Reply {
 }
 
 /// The clock goes to time `t`, which is not below now. Gives the floats held.
+/// First the floats that are silent at `t` retire; the rows in which they are placed
+/// do not narrow.
 /// When `t` lies in a later phase, the rows of newly live phases are emptied and
 /// the floats of phases that are no longer live are placed in the current one.
 /// Refused with 1, 2 and 3.
@@ -174,21 +186,24 @@ pub fn clock(store: &mut [i32], table: &mut [i16], t: i32) -> Reply {
 }
 
 /// A float that is not held sends its first report; the clock goes to its time
-/// first. Gives the floats held. Refused with 1, 2, 3, 4, 5 and 7.
+/// first, as by [`clock`], so an id whose float is silent then may be added again.
+/// Gives the floats held. Refused with 1, 2, 3, 4, 5 and 7.
 pub fn add(store: &mut [i32], table: &mut [i16], r: Report) -> Reply {
     let (s, sn, w, wn) = lent(store, table);
     unsafe { exported::float_index_add(s, sn, w, wn, r.id, r.t, r.x, r.y, r.vx, r.vy) }
 }
 
 /// A held float sends a new report, which replaces the one before; the clock
-/// goes to its time first. Gives the floats held. Refused with 1, 2, 3, 4 and 6.
+/// goes to its time first, as by [`clock`], and a float that is silent then is no
+/// longer held. Gives the floats held. Refused with 1, 2, 3, 4 and 6.
 pub fn report(store: &mut [i32], table: &mut [i16], r: Report) -> Reply {
     let (s, sn, w, wn) = lent(store, table);
     unsafe { exported::float_index_report(s, sn, w, wn, r.id, r.t, r.x, r.y, r.vx, r.vy) }
 }
 
-/// A held float is taken out; the clock goes to `t` first. Gives the floats
-/// held. Refused with 1, 2, 3, 4 and 6.
+/// A held float is taken out; the clock goes to `t` first, as by [`clock`], and a
+/// float that is silent then is no longer held. Gives the floats held. Refused
+/// with 1, 2, 3, 4 and 6.
 pub fn drop(store: &mut [i32], table: &mut [i16], id: i32, t: i32) -> Reply {
     let (s, sn, w, wn) = lent(store, table);
     unsafe { exported::float_index_drop(s, sn, w, wn, id, t) }

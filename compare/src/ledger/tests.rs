@@ -1,7 +1,9 @@
 //! The ledger against document 01's listing, P cases and table of refusals,
 //! against worked asks for windows and for the time before a report, and, on
 //! generated lists, against its own definitions and the lists of another reference
-//! time.
+//! time. Retirements have a file of their own.
+
+mod retirements;
 
 use super::*;
 use crate::generate::{lists, List};
@@ -253,11 +255,11 @@ fn refusals_of_windows() {
 const GOOD: Report = Report { id: 7, t: 100, at: [0, SEA], speed: [-TOP_SPEED, TOP_SPEED] };
 
 /// Makes the call, which is refused with this number and value and changes
-/// neither the time nor how many are held.
+/// neither the time nor what is held nor a row.
 fn refused(ledger: &mut Ledger, call: Call, list: usize, number: i64, value: i64) {
-    let (now, held) = (ledger.now, ledger.held.len());
+    let (now, held, rows) = (ledger.now, ledger.held.clone(), ledger.rows.clone());
     assert_eq!(ledger.call(&call, list), Answer::Refused(number, value), "{call:?}");
-    assert_eq!((ledger.now, ledger.held.len()), (now, held));
+    assert!(ledger.now == now && ledger.held == held && ledger.rows == rows, "{call:?}");
 }
 
 #[test]

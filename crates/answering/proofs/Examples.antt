@@ -7,13 +7,13 @@ use Rattle.ints.specs.Whole.{minZ, maxZ, eqZ}
 use Rattle.grid.specs.Places.{columnOf, cellSpan}
 use Rattle.grid.specs.Curve.{numberAt}
 use Rattle.grid.specs.Moments.{passageOf, meeting, insideDuring}
-use Rattle.grid.specs.Reports.{inRange, xAt, yAt, inRect, insideAt, isListed}
+use Rattle.grid.specs.Reports.{inRange, xAt, yAt, inRect, insideAt, isSilent, isListed}
 use Rattle.rows.specs.Row.{joined, sameRow, isEmpty, boundsOf}
 use Rattle.rows.specs.Phases.{phaseOf, referenceTime, isLive, livePhases}
 use Rattle.methods.specs.Reach.{expandedRange, expandedRect, expandedWindow, blockOf, cellsOfRow, cellsOfRows, cellsOf, movedSpan, meets, movedCellMeets, movedAroundMeets}
 use Rattle.methods.specs.Methods.{boundsIn, expandedBlock, iterated, choice}
 use Rattle.ledger.specs.Refusals.{firstToFail, isRectangle}
-use Rattle.ledger.specs.Machine.{steppedHeld, newPlacements, livePlacements, stepped, without, withReport, withoutId, speedsPlaced, rowsIn, usefulCells, putInOrder, idsInOrder, summed}
+use Rattle.ledger.specs.Machine.{movedHeld, newPlacements, livePlacements, keeping, movedOn, stepped, without, withReport, withoutId, speedsPlaced, rowsIn, usefulCells, putInOrder, idsInOrder, summed}
 use Rattle.ledger.specs.Calls as L
 use Rattle.fields.specs.Fields.{digits, written, fieldOf}
 use Rattle.fields.specs.Numbers.{fields}
@@ -28,16 +28,16 @@ use Rattle.answering.specs.Examples.{ended, listing, listingSays, window
 pub listing-is-replayed : replayed (ended listing) ≡ ended listingSays
 unfolding listing listingSays replayed answered linesFrom answerTo next ended bytes readLine countOf numbersOf changeNumbers callOf numbersIn areNumbers seenAt numberOf
     after withDigit noCallLine letterOf fields fieldOf written digits columnOf cellSpan numberAt minZ maxZ eqZ passing some joined sameRow isEmpty boundsOf expandedRange expandedRect
-    blockOf cellsOfRow cellsOfRows cellsOf movedSpan meets movedCellMeets boundsIn expandedBlock iterated choice inRange xAt yAt inRect insideAt isListed phaseOf
-    referenceTime isLive livePhases firstToFail isRectangle steppedHeld newPlacements livePlacements stepped without withReport withoutId speedsPlaced rowsIn
+    blockOf cellsOfRow cellsOfRows cellsOf movedSpan meets movedCellMeets boundsIn expandedBlock iterated choice inRange xAt yAt inRect insideAt isSilent isListed phaseOf
+    referenceTime isLive livePhases firstToFail isRectangle movedHeld newPlacements livePlacements keeping movedOn stepped without withReport withoutId speedsPlaced rowsIn
     usefulCells putInOrder idsInOrder summed L.answerTo L.changedBy L.idsOf L.next L.replyTo
 listing-is-replayed = refl
 
 pub damaged-is-replayed : replayed (ended damaged ++ bytes lastLine) ≡ ended damagedSays
 unfolding damaged damagedSays replayed answered linesFrom answerTo next ended bytes readLine countOf numbersOf changeNumbers callOf numbersIn areNumbers seenAt numberOf
     after withDigit noCallLine letterOf fields fieldOf written digits columnOf cellSpan numberAt minZ maxZ eqZ passing some joined sameRow isEmpty boundsOf expandedRange expandedRect
-    blockOf cellsOfRow cellsOfRows cellsOf movedSpan meets movedCellMeets boundsIn expandedBlock iterated choice inRange xAt yAt inRect insideAt isListed phaseOf
-    referenceTime isLive livePhases firstToFail isRectangle steppedHeld newPlacements livePlacements stepped without withReport withoutId speedsPlaced rowsIn
+    blockOf cellsOfRow cellsOfRows cellsOf movedSpan meets movedCellMeets boundsIn expandedBlock iterated choice inRange xAt yAt inRect insideAt isSilent isListed phaseOf
+    referenceTime isLive livePhases firstToFail isRectangle movedHeld newPlacements livePlacements keeping movedOn stepped without withReport withoutId speedsPlaced rowsIn
     usefulCells putInOrder idsInOrder summed L.answerTo L.changedBy L.idsOf L.next L.replyTo
 damaged-is-replayed = refl
 
@@ -45,7 +45,7 @@ pub windows-are-replayed : replayed (ended windows) ≡ ended windowsSay
 unfolding windows windowsSay replayed answered linesFrom answerTo next ended bytes readLine countOf numbersOf changeNumbers callOf numbersIn areNumbers seenAt numberOf
     after withDigit noCallLine letterOf fields fieldOf written digits columnOf cellSpan numberAt minZ maxZ eqZ passing some joined sameRow isEmpty boundsOf expandedRange expandedRect
     expandedWindow blockOf cellsOfRow cellsOfRows cellsOf movedSpan meets movedCellMeets movedAroundMeets boundsIn expandedBlock iterated choice inRange xAt yAt inRect insideAt
-    passageOf meeting insideDuring isListed phaseOf
-    referenceTime isLive livePhases firstToFail isRectangle steppedHeld newPlacements livePlacements stepped without withReport withoutId speedsPlaced rowsIn
+    passageOf meeting insideDuring isSilent isListed phaseOf
+    referenceTime isLive livePhases firstToFail isRectangle movedHeld newPlacements livePlacements keeping movedOn stepped without withReport withoutId speedsPlaced rowsIn
     usefulCells putInOrder idsInOrder summed L.answerTo L.changedBy L.idsOf L.next L.replyTo
 windows-are-replayed = refl

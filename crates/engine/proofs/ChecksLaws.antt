@@ -1,30 +1,37 @@
 -- What the first two checks, of the lent words, leave for the others; and what the checks of a clock, a change and an ask say when they are passed.
 -- Assumes nothing.
-use mathlib.Core.Path.{_≡_, refl, sym, ap, _∙_}
+use mathlib.Core.Path.{_≡_, refl, sym, ap, _∙_, subst}
 use mathlib.Core.Bool.{Bool, true, false, not, _&&_}
 use mathlib.Core.List.{List, [], _∷_}
+use Prim.Native.Nat.{ℕ, _<_}
 use native.Mathlib.Omega.{arith}
 use lib.Dec.{eqb, leb}
 use lib.IntN.{ℤ}
 use lib.ListN.{length}
 use lib.Signed.{ltZ}
 use borrow.Author.Tests.{eq-eqb, eqb-true, leb-false, not-false}
-use Rattle.ints.proofs.Parts.{signed}
+use Rattle.ints.specs.Lists.{some}
+use Rattle.ints.proofs.Parts.{signed, true-false}
 use Rattle.ints.proofs.Truth.{and-true, and-left, and-right, or-neither}
 use Rattle.grid.specs.Units.{capacity}
-use Rattle.grid.specs.Reports.{isTime, inRange}
+use Rattle.grid.specs.Reports.{isTime, inRange, staysAt}
 use Rattle.grid.specs.declared.Report.{Report}
+use Rattle.rows.specs.Phases.{phaseOf}
 use Rattle.rows.specs.Table.{tableWords}
 use Rattle.records.specs.Records.{storeWords}
 use Rattle.records.specs.Order.{hasId}
-use Rattle.records.specs.Soundness.{IsStore}
+use Rattle.records.specs.Soundness.{idsDistinct, IsStore}
 use Rattle.records.specs.Words.{Words, timeIn, recordsIn, areSound}
 use Rattle.records.specs.declared.Record.{Record}
 use Rattle.records.proofs.SoundnessLaws as Sound
-use Rattle.store.specs.Stepping.{steppedRecords}
-use Rattle.store.proofs.SteppingLaws.{has-stepped, stepped-length}
-use Rattle.words.specs.Words.{stepped}
+use Rattle.store.specs.Stepping.{placedIn}
+use Rattle.store.proofs.InsertingLaws.{inserted-length}
+use Rattle.store.proofs.RemovingLaws.{removed-length}
+use Rattle.store.proofs.SteppingLaws.{has-moved, moved-length}
+use Rattle.retiring.specs.Retiring.{kept, steppedRecords}
+use Rattle.words.specs.Words.{stepped, takenOut}
 use Rattle.words.specs.Needs.{RightLengths, CanStep, CanPlace, CanReplace}
+use Rattle.words.proofs.WordsPlacedLaws.{placed-records, taken-records}
 use Rattle.words.proofs.WordsSteppedLaws.{stepped-records, stepped-can-change}
 use Rattle.ledger.specs.Refusals.{Check, check, unless, firstToFail, badTime, badStepTime, timeOf, idOf, badNumbers, heldChecks, changeChecks, askNumberChecks}
 use Rattle.ledger.specs.declared.Ask.{Ask}
@@ -37,7 +44,8 @@ use Rattle.ledger.specs.declared.Verdict.the-variants.{Passed, Failed}
 use Rattle.ledger.proofs.RefusalsLaws.{passes, not-both, first-passed, others-passed, ask-good}
 use Rattle.asking.specs.Counted.{CanAsk}
 use Rattle.engine.specs.Checks.{wrongLength, unsound, lentChecks, openChecks, checksOfChange}
-use Rattle.engine.specs.Sound.{CanMake, CanApply}
+use Rattle.engine.specs.Index.{changed}
+use Rattle.engine.specs.Sound.{CanMake, CanApply, heldAfter, CanCount}
 
 -- ---- the lent words
 
@@ -77,6 +85,9 @@ module _ (w : Words) (sound : areSound w ≡ true) where
   pub sound-store : IsStore (w .store)
   sound-store = Sound.is-store (w .store) (parts .store)
 
+  pub sound-distinct : idsDistinct (recordsIn w) ≡ true
+  sound-distinct = parts .store .distinct
+
   pub right-length : wrongLength w ≡ false
   right-length =
       let s = eqb (length (w .store)) storeWords in
@@ -104,8 +115,22 @@ module _ (w : Words) (sound : areSound w ≡ true) where
 
 -- ---- a change
 
--- the clock step moves floats and neither adds nor loses one: who is held after it was held before
-pub judged-after : (now : ℤ) (rs : List Record) (c : Change) → changeChecks now c (hasId (idOf c) rs) (length rs) ≡ checksOfChange now rs c
+-- when silent floats are gone, the clock moves floats and neither adds nor loses one: who is held after the step is among those that stay
+pub stepped-length : (now time : ℤ) (rs : List Record) → length (steppedRecords now time rs) ≡ length (kept (staysAt time) rs)
+unfolding steppedRecords
+stepped-length now time rs = moved-length now time (kept (staysAt time) rs)
+
+has-stepped : (now time id : ℤ) (rs : List Record) → hasId id (steppedRecords now time rs) ≡ hasId id (kept (staysAt time) rs)
+unfolding steppedRecords
+has-stepped now time id rs = has-moved now time id (kept (staysAt time) rs)
+
+-- the floats held after the step
+pub held-then : (w : Words) (time : ℤ) → CanStep w time → (left : ℕ) → left ≡ length (kept (staysAt time) (recordsIn w)) → left ≡ length (recordsIn (stepped time w))
+held-then w time can left e = e ∙ sym (stepped-length (timeIn w) time (recordsIn w)) ∙ sym (ap length (stepped-records w time can))
+
+pub judged-after : (now : ℤ) (rs : List Record) (c : Change)
+    → let left = kept (staysAt (timeOf c)) rs in
+    changeChecks now c (hasId (idOf c) left) (length left) ≡ checksOfChange now rs c
 judged-after now rs c =
     λ i. changeChecks now c (sym (has-stepped now (timeOf c) (idOf c) rs) i) (sym (stepped-length now (timeOf c) rs) i)
 
@@ -152,3 +177,31 @@ module _ (w : Words) where
         in-range = not-false (inRange r) (can .good-numbers);
         is-time = can .is-time;
       }
+
+-- ---- the floats held after a change, by those that stay at its clock step
+
+-- one that is held is one at least
+one-at-least : (id : ℤ) (rs : List Record) → hasId id rs ≡ true → 0 < length rs
+unfolding some
+one-at-least id [] h = absurd (true-false (sym h))
+one-at-least id (r ∷ rs) h = omega arith
+
+pub can-count : (w : Words) (c : Change) → CanApply w c → CanCount c (length (recordsIn w))
+can-count w c can = record {
+  few = can .can-change .is-store .few;
+  one-to-drop = λ id t e.
+      let isHeld = hasId id (recordsIn w) in
+      let passed = subst (λ (x : Change). firstToFail (heldChecks x (hasId (idOf x) (recordsIn w)) (length (recordsIn w))) ≡ Passed) e (can .held-good) in
+      one-at-least id (recordsIn w) (not-false isHeld (first-passed (not isHeld) NotHeld [] passed));
+}
+
+pub changed-count : (w : Words) (c : Change) → CanApply w c → length (recordsIn (changed c w)) ≡ heldAfter c (length (recordsIn w))
+changed-count w (Change.Add r) can = omega (arith, ap length (placed-records r w), inserted-length (placedIn (phaseOf (r .t)) r) (recordsIn w))
+changed-count w (Change.Report r) can =
+    let w₁ = takenOut (r .id) w in
+    let was = can-report w r can .is-held in
+    omega (arith, ap length (placed-records r w₁), inserted-length (placedIn (phaseOf (r .t)) r) (recordsIn w₁), ap length (taken-records (r .id) w), removed-length (r .id) (recordsIn w) was)
+changed-count w (Change.Drop id t) can =
+    let isHeld = hasId id (recordsIn w) in
+    let was = not-false isHeld (first-passed (not isHeld) NotHeld [] (can .held-good)) in
+    omega (arith, ap length (taken-records id w), removed-length id (recordsIn w) was)

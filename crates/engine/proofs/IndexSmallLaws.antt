@@ -10,7 +10,8 @@ use lib.IntN.{ℤ}
 use lib.ListN.{length}
 use Rattle.ints.specs.Whole.{up}
 use Rattle.grid.specs.Units.{cells, capacity}
-use Rattle.grid.specs.Reports.{isListed}
+use Rattle.ints.proofs.Lists.{passing-few}
+use Rattle.grid.specs.Reports.{isListed, staysAt}
 use Rattle.rows.specs.Phases.{phaseOf, livePhases, slotOf}
 use Rattle.methods.specs.Aims.{aimIn}
 use Rattle.methods.specs.Slots.{rowsOfSlot}
@@ -19,7 +20,6 @@ use Rattle.reading.specs.Reading.{cellsIn, usefulIn}
 use Rattle.reading.proofs.ReadingLaws.{few-listed, cells-few}
 use Rattle.reading.proofs.ReadingUsefulLaws.{few-useful}
 use Rattle.store.specs.Stepping.{placedIn}
-use Rattle.store.proofs.SteppingLaws.{stepped-length}
 use Rattle.store.proofs.InsertingLaws.{inserted-length}
 use Rattle.words.specs.Words.{stepped, takenOut}
 use Rattle.words.specs.Needs.{CanStep}
@@ -43,7 +43,7 @@ use Rattle.asking.specs.Asking.{choiceOf, marksIn, listedOf, phasesNow, idsNeed
 use Rattle.asking.proofs.AskingLaws.{few-rounds}
 use Rattle.engine.specs.Index.{settled, openOut, clockOut, changed, changeOut, askOut, callOut}
 use Rattle.engine.specs.Checks.{openChecks, checksOf, checksOfChange}
-use Rattle.engine.proofs.ChecksLaws.{sound-store, sound-lent, can-step, change-can-step}
+use Rattle.engine.proofs.ChecksLaws.{sound-store, sound-lent, can-step, stepped-length, change-can-step}
 
 -- the most that any number of an answer is
 abbrev pub most : ℕ
@@ -134,7 +134,7 @@ module _ (w : Words) (sound : areSound w ≡ true) where
   step-few t can =
       let e = ap length (stepped-records w t can) in
       let f = few in
-      omega (arith, stepped-length (timeIn w) t (recordsIn w))
+      omega (arith, stepped-length (timeIn w) t (recordsIn w), passing-few (λ r. staysAt t (r .report)) (recordsIn w))
 
   clock-small : (t : ℤ) → SmallAnswer (clockOut w t .answer)
   unfolding clockOut AllSmall

@@ -12,7 +12,7 @@ use Rattle.records.specs.Records.{storeWords}
 use Rattle.records.specs.Order.{hasId}
 use Rattle.records.specs.Words.{Words, timeIn, recordsIn, areSound}
 use Rattle.records.specs.declared.Record.{Record}
-use Rattle.store.specs.Stepping.{steppedRecords}
+use Rattle.retiring.specs.Retiring.{steppedRecords}
 use Rattle.ledger.specs.Refusals.{Check, check, badTime, clockChecks, timeOf, idOf, changeChecks, askChecks}
 use Rattle.ledger.specs.declared.Ask.{Ask}
 use Rattle.ledger.specs.declared.Call.{Call}

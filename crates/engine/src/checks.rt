@@ -17,6 +17,7 @@ ghost use Rattle.records.specs.Words.{words};
 ghost use Rattle.ledger.specs.Refusals.{check, firstToFail, badStepTime, outOfAskRange, badAskTime, badWindow, badAsk, isRectangle, clockChecks, badNumbers, heldChecks, askNumberChecks};
 ghost use Rattle.ledger.specs.declared.Refusal.the-variants.{AlreadyHeld, NotHeld, Full};
 ghost use Rattle.engine.specs.Checks.{wrongLength, openChecks, lentChecks, checksOfChange};
+ghost use Rattle.engine.specs.Sound.{CanJudge};
 use grid::LAST_ID;
 use grid::LAST_POSITION;
 use grid::LAST_TIME;
@@ -253,9 +254,9 @@ fn verdict_by_held(c: Change, is_held: bool, held: usize) -> Verdict
     }
 }
 
-// Who is held is judged before the clock step: it moves floats and neither adds nor loses one.
-pub fn change_verdict(store: &[i32], c: Change) -> Verdict
-    requires { ⌜ IsStore (now store) ⌝ }
+// Who is held, and how many are, is judged after the clock step, which is not made yet: `left` is how many floats stay at it.
+pub fn change_verdict(store: &[i32], c: Change, left: usize) -> Verdict
+    requires { ⌜ CanJudge (now store) c left ⌝ }
     ensures { λ v. ⌜ v ≡ firstToFail (checksOfChange (nowOf (now (store .entry))) (recordsOf (now (store .entry))) c) ⌝ }
 {
     if bad_step_time(store, c.time()) {
@@ -264,8 +265,8 @@ pub fn change_verdict(store: &[i32], c: Change) -> Verdict
     if bad_numbers(c) {
         return Verdict::Failed(Refusal::BadNumber);
     }
-    let is_held = store::finding::has_id(store, c.id());
-    verdict_by_held(c, is_held, records::held_of(store))
+    let is_held = retiring::has_left(store, c.id(), c.time());
+    verdict_by_held(c, is_held, left)
 }
 
 // The checks of an ask but the last, which wants the ids found.

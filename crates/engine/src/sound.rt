@@ -1,5 +1,5 @@
 // The calls over words known to be sound, which they do not test again: the checks that go by the numbers and the records, then the work. What
-// each answers and leaves is what the public call of its name does.
+// each answers and leaves is what the public call of its name does. A call's answer is known before anything is written.
 ghost use mathlib.Core.Path.{_≡_};
 ghost use mathlib.Core.Bool.{true};
 ghost use Prim.Native.Nat.{_<_};
@@ -13,7 +13,7 @@ ghost use Rattle.ledger.specs.declared.Answer.the-variants.{Accepted};
 ghost use Rattle.asking.specs.Asking.{GivesList};
 ghost use Rattle.engine.specs.Index.{clockOut, changed, changeOut, askOut, callOut};
 ghost use Rattle.engine.specs.Gives.{Gives, GivesCall};
-ghost use Rattle.engine.specs.Sound.{CanMake, CanApply, Done};
+ghost use Rattle.engine.specs.Sound.{CanMakeWith, CanApply, heldAfter, CanCount, Done};
 use crate::checks::ask_verdict;
 use crate::checks::change_verdict;
 use crate::checks::clock_verdict;
@@ -23,7 +23,7 @@ use ledger::Call;
 use ledger::Change;
 use ledger::Verdict;
 
-// The answer of an accepted open, clock or change: the floats held after it.
+// The answer of an accepted open: the floats held after it.
 pub fn accepted(store: &[i32]) -> Answer
     requires { ⌜ 1 < length (now store) ⌝ }
     ensures { λ a. ⌜ a ≡ Accepted (length (recordsOf (now (store .entry)))) ⌝ }
@@ -36,8 +36,9 @@ fn make_step(store: &mut [i32], table: &mut [i16], t: i32) -> Answer
     requires { ⌜ CanStep (words (now store) (now table)) t ⌝ }
     ensures { λ a. ⌜ Done (stepped t (words (now (store .entry)) (now (table .entry)))) a (words (now (store .exit)) (now (table .exit))) ⌝ }
 {
-    words::step(store, table, t);
-    accepted(store)
+    let left = retiring::left_at(&store[..], t);
+    words::step(store, table, t, left);
+    Answer::Accepted(left)
 }
 
 // The clock goes to time t.
@@ -63,14 +64,27 @@ fn apply(store: &mut [i32], table: &mut [i16], c: Change)
     }
 }
 
-// A change that passed its checks: the clock step, then what it does.
-fn make_change(store: &mut [i32], table: &mut [i16], c: Change) -> Answer
-    requires { ⌜ CanMake (words (now store) (now table)) c ⌝ }
+// The floats held after a change that passed its checks, of those that stay at its clock step.
+fn held_after(c: Change, left: usize) -> usize
+    requires { ⌜ CanCount c left ⌝ }
+    ensures { λ n. ⌜ n ≡ heldAfter c left ⌝ }
+{
+    match c {
+        Change::Add(_) => left + 1,
+        Change::Report(_) => left,
+        Change::Drop(_, _) => left - 1,
+    }
+}
+
+// A change that passed its checks: the clock step, then what it does. `left` is how many floats stay at the step.
+fn make_change(store: &mut [i32], table: &mut [i16], c: Change, left: usize) -> Answer
+    requires { ⌜ CanMakeWith (words (now store) (now table)) c left ⌝ }
     ensures { λ a. ⌜ Done (changed c (stepped (timeOf c) (words (now (store .entry)) (now (table .entry))))) a (words (now (store .exit)) (now (table .exit))) ⌝ }
 {
-    words::step(store, table, c.time());
+    let held = held_after(c, left);
+    words::step(store, table, c.time(), left);
     apply(store, table, c);
-    accepted(store)
+    Answer::Accepted(held)
 }
 
 // A float is added, reports again or is dropped.
@@ -78,9 +92,10 @@ pub fn change(store: &mut [i32], table: &mut [i16], c: Change) -> Answer
     requires { ⌜ areSound (words (now store) (now table)) ≡ true ⌝ }
     ensures { λ a. ⌜ Gives (changeOut (words (now (store .entry)) (now (table .entry))) c) a (words (now (store .exit)) (now (table .exit))) ⌝ }
 {
-    match change_verdict(&store[..], c) {
+    let left = retiring::left_at(&store[..], c.time());
+    match change_verdict(&store[..], c, left) {
         Verdict::Failed(why) => Answer::Refused(why),
-        Verdict::Passed => make_change(store, table, c),
+        Verdict::Passed => make_change(store, table, c, left),
     }
 }
 

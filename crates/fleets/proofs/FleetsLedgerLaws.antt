@@ -10,13 +10,15 @@ use lib.IntN.{ℤ, pos}
 use lib.ListN.{length}
 use borrow.Author.Tests.{lt-leb}
 use Rattle.ints.specs.Whole.{up, eqZ}
-use Rattle.ints.specs.Lists.{some}
+use Rattle.ints.specs.Lists.{passing, some, every}
+use Rattle.ints.proofs.Truth.{and-true}
+use Rattle.ints.proofs.Lists.{passing-in, passing-all, every-each, each-every}
 use Rattle.ints.proofs.Same.{not-same}
 use Rattle.grid.specs.Units.{capacity, lastId}
-use Rattle.grid.specs.Reports.{inRange}
+use Rattle.grid.specs.Reports.{inRange, isSilent, staysAt}
 use Rattle.grid.specs.declared.Report.{Report}
 use Rattle.ledger.specs.Answers.{isAccepted}
-use Rattle.ledger.specs.Machine.{Held, Ledger, opened, steppedHeld, stepped, isHeld, withReport}
+use Rattle.ledger.specs.Machine.{Held, Ledger, opened, movedHeld, keeping, movedOn, stepped, isHeld, withReport}
 use Rattle.ledger.specs.Refusals.{firstToFail, badStepTime}
 use Rattle.ledger.specs.Calls.{Fed, answerBy, checksOf, changedBy, answerTo, idsOf, next, replyTo, replies}
 use Rattle.ledger.specs.declared.Answer.{Answer}
@@ -24,7 +26,7 @@ use Rattle.ledger.specs.declared.Answer.the-variants.{Accepted}
 use Rattle.ledger.specs.declared.Refusal.the-variants.{BadTime, BadNumber, AlreadyHeld, Full}
 use Rattle.ledger.specs.declared.Verdict.{Verdict}
 use Rattle.ledger.specs.declared.Verdict.the-variants.{Passed}
-use Rattle.ledger.proofs.MachineLaws.{stepped-length, stepped-held}
+use Rattle.ledger.proofs.MachineLaws.{same-report, moved-length, moved-held, moved-from}
 use Rattle.ledger.proofs.RefusalsLaws.{passes, none-fails}
 use Rattle.generator.specs.Generator.{steps}
 use Rattle.fleets.specs.Fleets.{draws, floatOf, floatsAfter}
@@ -34,15 +36,16 @@ use Rattle.fleets.proofs.FleetsLaws.{written-after, float-in-range}
 
 -- ---- one float
 
--- a ledger at 0 with h floats held, none of an id above k
+-- a ledger at 0 with h floats held, none of an id above k, and none silent at 0
 pub record Filled (k h : ℕ) (l : Ledger) : Type 0 where
   pub at-start : l .now ≡ pos 0
   pub none-above : (j : ℕ) → k < j → isHeld (pos j) (l .held) ≡ false
   pub many : length (l .held) ≡ h
+  pub stay : every (λ g. staysAt (pos 0) (g .report)) (l .held) ≡ true
 
 pub opened-filled : (k : ℕ) → Filled k 0 (opened (pos 0))
-unfolding some
-opened-filled k = record { at-start = refl; none-above = λ j h. refl; many = refl }
+unfolding some every
+opened-filled k = record { at-start = refl; none-above = λ j h. refl; many = refl; stay = refl }
 
 -- a float that may come next
 record Next (k : ℕ) (r : Report) : Type 0 where
@@ -63,14 +66,35 @@ module _ (k h : ℕ) (l : Ledger) (f : Filled k h l) (room : ℕ) (r : Report) (
   abbrev fed : Fed
   fed = fedWith room r
 
+  abbrev left : List Held
+  left = passing (λ g. staysAt (r .t) (g .report)) (l .held)
+
+  left-all : left ≡ l .held
+  left-all =
+      passing-all (λ g. staysAt (r .t) (g .report)) (l .held)
+      (λ g m. ap (λ (t : ℤ). staysAt t (g .report)) (n .at-start) ∙ every-each (λ x. staysAt (pos 0) (x .report)) (l .held) (f .stay) m)
+
   abbrev kept : List Held
-  kept = steppedHeld (r .t) (l .held)
+  kept = movedHeld (r .t) left
 
   kept-many : length kept ≡ h
-  kept-many = stepped-length (r .t) (l .held) ∙ f .many
+  kept-many = moved-length (r .t) left ∙ ap length left-all ∙ f .many
 
   kept-above : (j : ℕ) → k < j → isHeld (pos j) kept ≡ false
-  kept-above j i = stepped-held (r .t) (pos j) (l .held) ∙ f .none-above j i
+  kept-above j i = moved-held (r .t) (pos j) left ∙ ap (isHeld (pos j)) left-all ∙ f .none-above j i
+
+  kept-stay : every (λ g. staysAt (pos 0) (g .report)) kept ≡ true
+  kept-stay =
+      each-every (λ g. staysAt (pos 0) (g .report)) kept (λ g m.
+      let from = moved-from (r .t) left m in
+      let was = passing-in (λ x. staysAt (r .t) (x .report)) (l .held) (from .1) .0 in
+      ap (λ (x : Held). staysAt (pos 0) (x .report)) (from .2)
+      ∙ ap (staysAt (pos 0)) (same-report (r .t) (from .0))
+      ∙ every-each (λ x. staysAt (pos 0) (x .report)) (l .held) (f .stay) was)
+
+  new-stays : staysAt (pos 0) r ≡ true
+  unfolding isSilent
+  new-stays = ap (λ (t : ℤ). not (isSilent (pos 0) t)) (n .at-start)
 
   in-time : badStepTime (l .now) (r .t) ≡ false
   in-time = ap₂ badStepTime (f .at-start) (n .at-start)
@@ -79,14 +103,14 @@ module _ (k h : ℕ) (l : Ledger) (f : Filled k h l) (room : ℕ) (r : Report) (
   not-held = ap (λ (id : ℤ). isHeld id kept) (n .id-is) ∙ kept-above (suc k) (omega arith)
 
   none-fails-here : Passed ≡ firstToFail (checksOf l (fed .call) room)
-  unfolding stepped
+  unfolding stepped movedOn keeping
   none-fails-here =
       passes _ BadTime _ _ in-time
       (passes _ BadNumber _ _ (ap not (n .good))
       (passes _ AlreadyHeld _ _ not-held (passes _ Full _ _ (lt-leb capacity (length kept) (omega (arith, kept-many))) none-fails)))
 
   answered : answerTo l fed ≡ Accepted (suc h)
-  unfolding answerTo changedBy stepped withReport
+  unfolding answerTo changedBy stepped movedOn keeping withReport
   answered = ap (λ (v : Verdict). answerBy v (Accepted (suc (length kept)))) (sym none-fails-here) ∙ ap (λ (m : ℕ). Accepted (suc m)) kept-many
 
   replied : replyTo l fed ≡ record { answer = Accepted (suc h); ids = [] }
@@ -102,8 +126,8 @@ module _ (k h : ℕ) (l : Ledger) (f : Filled k h l) (room : ℕ) (r : Report) (
   still-above j i = rw (not-same (r .id) (pos j) (λ e. omega (arith, ap up (sym (n .id-is) ∙ e)))) (kept-above j (omega arith))
 
   changed-filled : Filled (suc k) (suc h) (changedBy l (fed .call))
-  unfolding changedBy stepped withReport some
-  changed-filled = record { at-start = n .at-start; none-above = still-above; many = ap suc kept-many }
+  unfolding changedBy stepped movedOn keeping withReport some every
+  changed-filled = record { at-start = n .at-start; none-above = still-above; many = ap suc kept-many; stay = and-true _ _ new-stays kept-stay }
 
   next-accepted : Accepts k h l fed
   next-accepted = record { reply-is = replied; filled = rw next-is changed-filled }

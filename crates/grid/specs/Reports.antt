@@ -1,11 +1,11 @@
 -- A float's report, where it says that the float is, and when a query lists it: document 01, "Units and the places on the grid", and document 02, A3 for
--- windows and A4 for reports that come later. Positions are centimetres, speeds centimetres per second, times seconds.
+-- windows, A4 for reports that come later and A7 for silence. Positions are centimetres, speeds centimetres per second, times seconds.
 -- Assumes nothing.
-use mathlib.Core.Bool.{Bool, _&&_}
-use lib.IntN.{ℤ, pos, negℤ, _-ℤ_}
+use mathlib.Core.Bool.{Bool, _&&_, not}
+use lib.IntN.{ℤ, pos, negℤ, _+ℤ_, _-ℤ_}
 use lib.Signed.{leZ}
 use Rattle.ints.specs.Whole.{between, maxZ}
-use Rattle.grid.specs.Units.{lastPosition, speedLimit, lastTime, lastId}
+use Rattle.grid.specs.Units.{lastPosition, speedLimit, lastTime, silence, lastId}
 use Rattle.grid.specs.Places.{positionAfter, cellOf}
 use Rattle.grid.specs.Moments.{insideDuring}
 use Rattle.grid.specs.declared.Cell.{Cell}
@@ -56,6 +56,16 @@ yAt r s = positionAfter (r .y) (r .vy) (s -ℤ r .t)
 -- the cell of its position at time s
 abbrev pub cellAtTime : Report → ℤ → Cell
 cellAtTime r s = cellOf (xAt r s) (yAt r s)
+
+-- ---- silence
+
+-- a float whose report was sent at t has sent nothing for so long at a time that it is lost
+unfoldable pub isSilent : ℤ → ℤ → Bool
+isSilent time t = leZ (t +ℤ pos silence) time
+
+-- who stays held when the clock steps to a time: a silent float retires
+abbrev pub staysAt : ℤ → Report → Bool
+staysAt time r = not (isSilent time (r .t))
 
 -- ---- queries
 

@@ -1,5 +1,5 @@
--- The numbers of document 01, "Units and the places on the grid", and the longest window of document 02, A3, each named once. Positions are
--- centimetres, speeds centimetres per second, times seconds.
+-- The numbers of document 01, "Units and the places on the grid", the longest window of document 02, A3, and the silence of A7, each named once.
+-- Positions are centimetres, speeds centimetres per second, times seconds.
 -- Assumes nothing.
 use Prim.Native.Nat.{ℕ, suc, _-_, _*_}
 
@@ -41,6 +41,10 @@ askAfter = 7200
 -- how long a window may be, in seconds
 abbrev pub longestWindow : ℕ
 longestWindow = 3600
+
+-- how long a float may send nothing before it is lost, in seconds
+abbrev pub silence : ℕ
+silence = 2592000
 
 -- the last id
 abbrev pub lastId : ℕ

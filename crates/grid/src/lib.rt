@@ -44,6 +44,9 @@ pub const ID_MARKS: usize = (LAST_ID + 1) as usize;
 
 pub const LAST_TIME: i32 = 999999999;
 
+// How long a float may send nothing before it is lost, in seconds.
+pub const SILENCE: i32 = 2592000;
+
 pub struct Cell {
     pub column: usize,
     pub row: usize,

@@ -1,4 +1,4 @@
--- What is kept of the ledger alone: an opened ledger is good, and the clock step, a report placed and a report taken out keep it so.
+-- What is kept of the ledger alone: an opened ledger is good, and floats that go, the clock moved on, a report placed and a report taken out keep it so.
 -- Assumes nothing.
 use mathlib.Core.Path.{_≡_, refl, sym, ap, _∙_, subst}
 use mathlib.Core.Bool.{Bool, true, false, cond, not}
@@ -11,9 +11,10 @@ use lib.IntN.{ℤ, pos}
 use lib.ListN.{length}
 use lib.Signed.{leZ}
 use borrow.Author.Tests.{le-leb}
-use Rattle.ints.specs.Lists.{some}
+use Rattle.ints.specs.Lists.{passing, some}
 use Rattle.ints.specs.Whole.{eqZ, between}
 use Rattle.ints.proofs.Least.{le-trans}
+use Rattle.ints.proofs.Lists.{passing-in, passing-few, passing-some}
 use Rattle.ints.proofs.Truth.{and-true, and-left, and-right}
 use Rattle.ints.proofs.Same.{same-is}
 use Rattle.grid.specs.Units.{capacity}
@@ -23,8 +24,8 @@ use Rattle.grid.proofs.PlacesLaws.{cell-on}
 use Rattle.rows.specs.Phases.{phaseOf, referenceTime, isLive}
 use Rattle.rows.proofs.PhasesLaws.{range-live, phases-grow}
 use Rattle.records.proofs.SoundnessRangeLaws.{drift-in-range}
-use Rattle.ledger.specs.Machine.{Ledger, Held, Placement, placement, opened, isHeld, without, steppedOne, steppedHeld, newPlacements, livePlacements, stepped, withReport, withoutId}
-use Rattle.ledger.proofs.MachineLaws.{same-report, stepped-length, stepped-held, stepped-from, without-member, without-few, without-held, live-from, live-stays, new-from, new-placed}
+use Rattle.ledger.specs.Machine.{Ledger, Held, Placement, placement, opened, isHeld, without, movedOne, movedHeld, newPlacements, livePlacements, keeping, movedOn, withReport, withoutId}
+use Rattle.ledger.proofs.MachineLaws.{same-report, moved-length, moved-held, moved-from, without-member, without-few, without-held, live-from, live-stays, new-from, new-placed}
 use Rattle.history.proofs.Relation.{heldOnce, GoodHeld, GoodPlacement, Good}
 use Rattle.history.proofs.HeldRecords.{first-once, rest-once, once-more}
 
@@ -58,22 +59,49 @@ good-placement now r h =
     let s = referenceTime (phaseOf now) in
     record { live = current-live (phaseOf now); on-grid = cell-on (xAt r s) (yAt r s); in-range = drift-in-range r h }
 
--- ---- the clock step
+-- ---- the floats that stay, whichever test says who does
 
-pub once-stepped : (c : ℤ) (hs : List Held) → heldOnce hs ≡ true → heldOnce (steppedHeld c hs) ≡ true
-unfolding steppedHeld
-once-stepped c [] o = o
-once-stepped c (h ∷ hs) o =
+module _ (stays : Report → Bool) where
+  abbrev test : Held → Bool
+  test h = stays (h .report)
+
+  once-kept : (hs : List Held) → heldOnce hs ≡ true → heldOnce (passing test hs) ≡ true
+  unfolding passing
+  once-kept [] o = o
+  once-kept (h ∷ hs) o = go (stays (h .report)) (once-kept hs (rest-once h hs o))
+    where
+      go : (t : Bool) → heldOnce (passing test hs) ≡ true → heldOnce (cond t (h ∷ passing test hs) (passing test hs)) ≡ true
+      go true k = once-more h (passing test hs) (passing-some (λ g. eqZ (g .report .id) (h .report .id)) test hs (first-once h hs o)) k
+      go false k = k
+
+  pub keeping-good : (l : Ledger) → Good l → Good (keeping stays l)
+  unfolding keeping
+  keeping-good l good =
+      let few = good .few in
+      record {
+        time = good .time;
+        few = omega (arith, passing-few test (l .held));
+        once = once-kept (l .held) (good .once);
+        holds = λ h m. good .holds h (passing-in test (l .held) m .0);
+        places = good .places;
+      }
+
+-- ---- the clock moved on
+
+once-moved : (c : ℤ) (hs : List Held) → heldOnce hs ≡ true → heldOnce (movedHeld c hs) ≡ true
+unfolding movedHeld
+once-moved c [] o = o
+once-moved c (h ∷ hs) o =
     let same = ap (λ (r : Report). r .id) (same-report c h) in
-    once-more (steppedOne c h) (steppedHeld c hs)
-    (ap (λ (z : ℤ). isHeld z (steppedHeld c hs)) same ∙ stepped-held c (h .report .id) hs ∙ first-once h hs o)
-    (once-stepped c hs (rest-once h hs o))
+    once-more (movedOne c h) (movedHeld c hs)
+    (ap (λ (z : ℤ). isHeld z (movedHeld c hs)) same ∙ moved-held c (h .report .id) hs ∙ first-once h hs o)
+    (once-moved c hs (rest-once h hs o))
 
 module _ (t : ℤ) (l : Ledger) (good : Good l) (is-time : isTime t ≡ true) (later : leZ (l .now) t ≡ true) where
   placements′ : List Placement
   placements′ = livePlacements t (l .placements) ++ newPlacements t (l .held)
 
-  held-on : (h : Held) → List·Memᴰ h (l .held) → GoodHeld t placements′ (steppedOne t h)
+  held-on : (h : Held) → List·Memᴰ h (l .held) → GoodHeld t placements′ (movedOne t h)
   unfolding placements′
   held-on h m = go (isLive (phaseOf t) (h .phase)) refl
     where
@@ -116,15 +144,15 @@ module _ (t : ℤ) (l : Ledger) (good : Good l) (is-time : isTime t ≡ true) (l
           let from = new-from t (l .held) k in
           subst (GoodPlacement t) (sym (from .2)) (good-placement t (from .0 .report) (good .holds (from .0) (from .1) .ranged))
 
-  pub stepped-good : Good (stepped t l)
-  unfolding stepped placements′
-  stepped-good =
+  pub moved-good : Good (movedOn t l)
+  unfolding movedOn placements′
+  moved-good =
       record {
         time = is-time;
-        few = rw (stepped-length t (l .held)) (good .few);
-        once = once-stepped t (l .held) (good .once);
+        few = rw (moved-length t (l .held)) (good .few);
+        once = once-moved t (l .held) (good .once);
         holds = λ x m.
-            let from = stepped-from t (l .held) m in
+            let from = moved-from t (l .held) m in
             subst (GoodHeld t placements′) (sym (from .2)) (held-on (from .0) (from .1));
         places = placed-on;
       }

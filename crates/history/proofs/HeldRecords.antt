@@ -1,5 +1,5 @@
--- The records of the held reports: as many, with the same ids, in order, sound; and a drop or a clock step of the held reports is that of their
--- records.
+-- The records of the held reports: as many, with the same ids, in order, sound; and a drop of the held reports, those that stay of them and the clock moved
+-- on are those of their records.
 -- Assumes nothing.
 use mathlib.Core.Path.{_≡_, refl, sym, ap, _∙_}
 use mathlib.Core.Bool.{Bool, true, false, cond, not}
@@ -13,19 +13,21 @@ use Rattle.ints.specs.Whole.{eqZ}
 use Rattle.ints.specs.Lists.{passing, some, every}
 use Rattle.ints.proofs.Truth.{and-left, and-right}
 use Rattle.ints.proofs.Same.{same-is}
+use Rattle.grid.specs.declared.Report.{Report}
 use Rattle.rows.specs.Phases.{phaseOf, isLive}
 use Rattle.records.specs.Order.{isSorted, hasId}
 use Rattle.records.specs.Soundness.{isSoundRecord, allSound, idsDistinct}
 use Rattle.store.specs.Inserting.{inserted, insertedAll}
 use Rattle.store.specs.Removing.{removed}
-use Rattle.store.specs.Stepping.{placedIn, stays, moves, steppedRecords}
+use Rattle.store.specs.Stepping.{placedIn, livesOn, moves, movedRecords}
 use Rattle.records.specs.declared.Record.{Record}
 use Rattle.records.proofs.OrderKeysLaws.{live-phase-of-key, placed-right}
 use Rattle.records.proofs.SoundnessLaws.{record-sound}
 use Rattle.store.proofs.InsertingLaws.{inserted-from, inserted-length, has-inserted, inserted-sorted, inserted-every, inserted-distinct}
 use Rattle.store.proofs.RemovingLaws.{removed-same, removed-other}
-use Rattle.store.proofs.SteppingLaws.{stepped-kept, stepped-replaced}
-use Rattle.ledger.specs.Machine.{Held, Placement, isHeld, without, steppedHeld}
+use Rattle.store.proofs.SteppingLaws.{passing-one, passing-other, moved-kept, moved-replaced}
+use Rattle.retiring.specs.Retiring.{kept}
+use Rattle.ledger.specs.Machine.{Held, Placement, isHeld, without, movedHeld}
 use Rattle.history.proofs.Relation.{recordOf, recordsOfHeld, heldOnce, GoodHeld}
 
 pub records-length : (hs : List Held) → length (recordsOfHeld hs) ≡ length hs
@@ -110,28 +112,45 @@ records-removed id (h ∷ hs) o = go (eqZ (h .report .id) id) refl (records-remo
     go false e k =
         removed-other id (recordOf h) (recordsOfHeld hs) e (records-sorted hs (rest-once h hs o)) ∙ ap (inserted (recordOf h)) k
 
--- ---- the clock step
+-- ---- those that stay
+
+pub records-kept : (stays : Report → Bool) (hs : List Held) → heldOnce hs ≡ true → kept stays (recordsOfHeld hs) ≡ recordsOfHeld (passing (λ h. stays (h .report)) hs)
+unfolding recordsOfHeld passing
+records-kept stays [] o = refl
+records-kept stays (h ∷ hs) o = go (stays (h .report)) refl (records-kept stays hs (rest-once h hs o))
+  where
+    test : Record → Bool
+    test r = stays (r .report)
+
+    left : List Held
+    left = passing (λ g. stays (g .report)) hs
+
+    go : (t : Bool) → stays (h .report) ≡ t → kept stays (recordsOfHeld hs) ≡ recordsOfHeld left → kept stays (inserted (recordOf h) (recordsOfHeld hs)) ≡ recordsOfHeld (cond t (h ∷ left) left)
+    go true e k = passing-one test (recordOf h) (recordsOfHeld hs) e (records-sorted hs (rest-once h hs o)) ∙ ap (inserted (recordOf h)) k
+    go false e k = passing-other test (recordOf h) (recordsOfHeld hs) e ∙ k
+
+-- ---- the clock moved on
 
 -- a held report in a live phase stays as a record exactly where it stays in the ledger: its phase lives on
-pub stays-held : (now time : ℤ) (h : Held) → isLive (phaseOf now) (h .phase) ≡ true → stays now time (recordOf h) ≡ isLive (phaseOf time) (h .phase)
-stays-held now time h live = ap (isLive (phaseOf time)) (live-phase-of-key (phaseOf now) (h .phase) (h .report) live)
+pub lives-on-held : (now time : ℤ) (h : Held) → isLive (phaseOf now) (h .phase) ≡ true → livesOn now time (recordOf h) ≡ isLive (phaseOf time) (h .phase)
+lives-on-held now time h live = ap (isLive (phaseOf time)) (live-phase-of-key (phaseOf now) (h .phase) (h .report) live)
 
-pub records-stepped : (now time : ℤ) (hs : List Held) → heldOnce hs ≡ true → ((h : Held) → List·Memᴰ h hs → isLive (phaseOf now) (h .phase) ≡ true)
-    → steppedRecords now time (recordsOfHeld hs) ≡ recordsOfHeld (steppedHeld time hs)
-unfolding recordsOfHeld steppedHeld steppedRecords passing insertedAll
-records-stepped now time [] o live = refl
-records-stepped now time (h ∷ hs) o live =
-    go (isLive (phaseOf time) (h .phase)) refl (records-stepped now time hs (rest-once h hs o) (λ g m. live g (List·Memᴰ·tail m)))
+pub records-moved : (now time : ℤ) (hs : List Held) → heldOnce hs ≡ true → ((h : Held) → List·Memᴰ h hs → isLive (phaseOf now) (h .phase) ≡ true)
+    → movedRecords now time (recordsOfHeld hs) ≡ recordsOfHeld (movedHeld time hs)
+unfolding recordsOfHeld movedHeld movedRecords passing insertedAll
+records-moved now time [] o live = refl
+records-moved now time (h ∷ hs) o live =
+    go (isLive (phaseOf time) (h .phase)) refl (records-moved now time hs (rest-once h hs o) (λ g m. live g (List·Memᴰ·tail m)))
   where
-    phase : stays now time (recordOf h) ≡ isLive (phaseOf time) (h .phase)
-    phase = stays-held now time h (live h (List·Memᴰ·head refl))
+    phase : livesOn now time (recordOf h) ≡ isLive (phaseOf time) (h .phase)
+    phase = lives-on-held now time h (live h (List·Memᴰ·head refl))
 
-    go : (t : Bool) → isLive (phaseOf time) (h .phase) ≡ t → steppedRecords now time (recordsOfHeld hs) ≡ recordsOfHeld (steppedHeld time hs)
-        → steppedRecords now time (inserted (recordOf h) (recordsOfHeld hs))
-        ≡ inserted (recordOf (cond t h (record { report = h .report; phase = phaseOf time }))) (recordsOfHeld (steppedHeld time hs))
+    go : (t : Bool) → isLive (phaseOf time) (h .phase) ≡ t → movedRecords now time (recordsOfHeld hs) ≡ recordsOfHeld (movedHeld time hs)
+        → movedRecords now time (inserted (recordOf h) (recordsOfHeld hs))
+        ≡ inserted (recordOf (cond t h (record { report = h .report; phase = phaseOf time }))) (recordsOfHeld (movedHeld time hs))
     go true e k =
-        stepped-kept (phaseOf time) (stays now time) (moves now time) (recordOf h) (recordsOfHeld hs) (phase ∙ e) (ap not (phase ∙ e)) (fresh h hs o) (records-sorted hs (rest-once h hs o))
+        moved-kept (phaseOf time) (livesOn now time) (moves now time) (recordOf h) (recordsOfHeld hs) (phase ∙ e) (ap not (phase ∙ e)) (fresh h hs o) (records-sorted hs (rest-once h hs o))
         ∙ ap (inserted (recordOf h)) k
     go false e k =
-        stepped-replaced (phaseOf time) (stays now time) (moves now time) (recordOf h) (recordsOfHeld hs) (phase ∙ e) (ap not (phase ∙ e)) (fresh h hs o)
+        moved-replaced (phaseOf time) (livesOn now time) (moves now time) (recordOf h) (recordsOfHeld hs) (phase ∙ e) (ap not (phase ∙ e)) (fresh h hs o)
         ∙ ap (inserted (placedIn (phaseOf time) (h .report))) k

@@ -1,6 +1,6 @@
 -- A row never narrows while its phase lives, over every list of calls, of the index's words and of the ledger.
 -- Assumes nothing.
-use mathlib.Core.Path.{_≡_, refl, _∙_, subst}
+use mathlib.Core.Path.{_≡_, refl, ap, _∙_, subst}
 use mathlib.Core.Bool.{Bool, true, false, cond}
 use mathlib.Core.List.{List, [], _∷_, _++_, Memᴰ·append-left}
 use mathlib.Core.Logic.{inl, inr, dite}
@@ -12,6 +12,7 @@ use lib.ListN.{length}
 use lib.Signed.{leZ}
 use Rattle.grid.specs.Units.{cells}
 use Rattle.grid.specs.Curve.{curveNumber}
+use Rattle.grid.specs.Reports.{staysAt}
 use Rattle.grid.specs.declared.Cell.{Cell}
 use Rattle.grid.specs.declared.Report.{Report}
 use Rattle.grid.proofs.CurveLaws.{number-below}
@@ -27,15 +28,17 @@ use Rattle.records.specs.Order.{slotOfKey, numberOfKey}
 use Rattle.store.specs.Inserting.{inserted}
 use Rattle.store.specs.Removing.{removed}
 use Rattle.store.specs.Widening.{widenedBy, widenedByAll}
-use Rattle.store.specs.Stepping.{placedIn, moves, replaced, steppedRecords}
+use Rattle.store.specs.Stepping.{placedIn, moves, replaced, movedRecords}
 use Rattle.store.proofs.WideningLaws.{ownRow, with-speeds-length}
+use Rattle.retiring.specs.Retiring.{kept}
 use Rattle.words.specs.Words as Index
+use Rattle.words.proofs.WordsSteppedLaws.{keeping-time}
 use Rattle.records.specs.declared.Record.{Record}
 use Rattle.records.proofs.RecordsLaws.{now-of-store}
 use Rattle.records.proofs.SoundnessRangeLaws.{number-of-key-below}
 use Rattle.ledger.specs.Answers.{isAccepted}
 use Rattle.ledger.specs.Refusals.{Check, check, firstToFail, badStepTime, timeOf}
-use Rattle.ledger.specs.Machine.{Ledger, Placement, livePlacements, newPlacements, stepped, withReport, withoutId, changed, speedsPlaced, rowsIn}
+use Rattle.ledger.specs.Machine.{Ledger, Placement, livePlacements, newPlacements, keeping, movedOn, stepped, withReport, withoutId, changed, speedsPlaced, rowsIn}
 use Rattle.ledger.specs.Calls as L
 use Rattle.ledger.specs.Calls.{Fed}
 use Rattle.ledger.specs.declared.Call.{Call}
@@ -114,15 +117,22 @@ lasts-trans {u} {v} {w} f g =
           within-trans (f .keeps p h live n here) (g .keeps p live k n here);
     }
 
--- the clock step
-step-lasts : (w : Words) (time : ℤ) → length (w .table) ≡ tableWords → leZ (timeIn w) time ≡ true → Lasts w (Index.stepped time w)
-unfolding Index.stepped Index.tableStepped
-step-lasts w time sized later =
+-- floats that go leave their rows
+keep-lasts : (w : Words) (stays : Report → Bool) → Lasts w (Index.keeping stays w)
+unfolding Index.keeping
+keep-lasts w stays =
+    let now = now-of-store (timeIn w) (kept stays (recordsIn w)) in
+    record { phase-rises = rw now (omega arith); keeps = λ p h k n here. within-refl (rowAt (w .table) (slotOf p) n) }
+
+-- the clock moved on
+move-lasts : (w : Words) (time : ℤ) → length (w .table) ≡ tableWords → leZ (timeIn w) time ≡ true → Lasts w (Index.movedOn time w)
+unfolding Index.movedOn Index.tableMoved
+move-lasts w time sized later =
     let c = phaseOf (timeIn w) in
     let to = phaseOf time in
     let bare = withNewlyLiveEmpty (w .table) c to in
     let anew = replaced to (moves (timeIn w) time) (recordsIn w) in
-    let now = now-of-store time (steppedRecords (timeIn w) time (recordsIn w)) in
+    let now = now-of-store time (movedRecords (timeIn w) time (recordsIn w)) in
     let rises = phases-grow (timeIn w) time later in
     record {
       phase-rises = rw now rises;
@@ -131,6 +141,13 @@ step-lasts w time sized later =
           (earlier-live-kept (w .table) c to sized p n (rw now at k) here (live-range c p h .0))
           (all-widened bare anew (slotOf p) n (length-newly-live-empty (w .table) c to sized) (slot-on p) here);
     }
+
+-- the clock step
+step-lasts : (w : Words) (time : ℤ) → length (w .table) ≡ tableWords → leZ (timeIn w) time ≡ true → Lasts w (Index.stepped time w)
+unfolding Index.stepped Index.keeping
+step-lasts w time sized later =
+    let left = Index.keeping (staysAt time) w in
+    lasts-trans (keep-lasts w (staysAt time)) (move-lasts left time sized (ap (λ (now : ℤ). leZ now time) (keeping-time (staysAt time) w) ∙ later))
 
 -- the same time, and a table whose rows are no narrower
 place-lasts : (w : Words) (r : Report) → length (w .table) ≡ tableWords → Lasts w (Index.placed r w)
@@ -150,10 +167,11 @@ take-lasts w id =
     record { phase-rises = rw now (omega arith); keeps = λ p h k n here. within-refl (rowAt (w .table) (slotOf p) n) }
 
 step-sized : (w : Words) (time : ℤ) → length (w .table) ≡ tableWords → length (Index.stepped time w .table) ≡ tableWords
-unfolding Index.stepped Index.tableStepped
+unfolding Index.stepped Index.keeping Index.movedOn Index.tableMoved
 step-sized w time sized =
-    let c = phaseOf (timeIn w) in
-    with-speeds-length (withNewlyLiveEmpty (w .table) c (phaseOf time)) (replaced (phaseOf time) (moves (timeIn w) time) (recordsIn w))
+    let left = Index.keeping (staysAt time) w in
+    let c = phaseOf (timeIn left) in
+    with-speeds-length (withNewlyLiveEmpty (w .table) c (phaseOf time)) (replaced (phaseOf time) (moves (timeIn left) time) (recordsIn left))
     ∙ length-newly-live-empty (w .table) c (phaseOf time) sized
 
 take-sized : (w : Words) (id : ℤ) → length (Index.takenOut id w .table) ≡ length (w .table)
@@ -222,15 +240,24 @@ more-placed p c ps more =
     rw (speeds-append p c ps more)
     (bounds-grow (speedsPlaced p c ps) (speedsPlaced p c ps ++ speedsPlaced p c more) (λ r m. Memᴰ·append-left (speedsPlaced p c more) m))
 
-stepped-lasts : (time : ℤ) (l : Ledger) → leZ (l .now) time ≡ true → LedgerLasts l (stepped time l)
-unfolding stepped rowsIn
-stepped-lasts time l later = record {
+keeping-lasts : (stays : Report → Bool) (l : Ledger) → LedgerLasts l (keeping stays l)
+unfolding keeping rowsIn
+keeping-lasts stays l =
+    record { phase-rises = omega arith; keeps = λ p h k c. within-refl (boundsOf (speedsPlaced p c (l .placements))) }
+
+moved-lasts : (time : ℤ) (l : Ledger) → leZ (l .now) time ≡ true → LedgerLasts l (movedOn time l)
+unfolding movedOn rowsIn
+moved-lasts time l later = record {
   phase-rises = phases-grow (l .now) time later;
   keeps = λ p h k c.
       subst (λ (rs : List Row). Within (boundsOf rs) (boundsOf (speedsPlaced p c (livePlacements time (l .placements) ++ newPlacements time (l .held)))))
       (speeds-live time p c (l .placements) k)
       (more-placed p c (livePlacements time (l .placements)) (newPlacements time (l .held)));
 }
+
+stepped-lasts : (time : ℤ) (l : Ledger) → leZ (l .now) time ≡ true → LedgerLasts l (stepped time l)
+unfolding stepped keeping
+stepped-lasts time l later = ledger-trans (keeping-lasts (staysAt time) l) (moved-lasts time (keeping (staysAt time) l) later)
 
 with-report-lasts : (r : Report) (l : Ledger) → LedgerLasts l (withReport r l)
 unfolding withReport rowsIn

@@ -17,3 +17,4 @@ pub mod Claims
 pub mod ListsAsBefore
 pub mod Numbers
 pub mod Points
+pub mod Silence

@@ -11,12 +11,12 @@ use lib.ListN.{length, length-map}
 use Rattle.ints.specs.Whole.{eqZ, up}
 use Rattle.ints.specs.Lists.{passing, some}
 use Rattle.ints.proofs.Lists.{some-map}
-use Rattle.grid.specs.Reports.{isListed}
+use Rattle.grid.specs.Reports.{isListed, staysAt}
 use Rattle.grid.specs.declared.Query.{Query}
 use Rattle.grid.specs.declared.Report.{Report}
 use Rattle.ledger.specs.Answers.{isAccepted}
 use Rattle.ledger.specs.Refusals.{firstToFail, timeOf, idOf, clockChecks, changeChecks, askChecks}
-use Rattle.ledger.specs.Machine.{Ledger, Held, opened, steppedHeld, stepped, isHeld, without, withReport, withoutId, changed, listedHeld}
+use Rattle.ledger.specs.Machine.{Ledger, Held, opened, movedHeld, keeping, movedOn, stepped, isHeld, without, withReport, withoutId, changed, listedHeld}
 use Rattle.ledger.specs.Machine.{putInOrder, idsInOrder, idsListed, cellsRead, usefulRead, roundsTaken}
 use Rattle.ledger.specs.Calls as L
 use Rattle.ledger.specs.Calls.{Fed, answerBy}
@@ -65,10 +65,26 @@ ids-are query (h ∷ hs) = go (isListed query (h .report)) (ids-are query hs)
     go true e = ap (putInOrder (up (h .report .id))) e
     go false e = e
 
-stepped-reports : (time : ℤ) (hs : List Held) → reportsOf (steppedHeld time hs) ≡ reportsOf hs
-unfolding steppedHeld
-stepped-reports time [] = refl
-stepped-reports time (h ∷ hs) = ap₂ (λ (r : Report) (rs : List Report). r ∷ rs) (same-report time h) (stepped-reports time hs)
+kept-reports : (stays : Report → Bool) (hs : List Held) → reportsOf (passing (λ h. stays (h .report)) hs) ≡ passing stays (reportsOf hs)
+unfolding passing
+kept-reports stays [] = refl
+kept-reports stays (h ∷ hs) = go (stays (h .report)) (kept-reports stays hs)
+  where
+    left : List Held
+    left = passing (λ g. stays (g .report)) hs
+
+    go : (t : Bool) → reportsOf left ≡ passing stays (reportsOf hs) → reportsOf (cond t (h ∷ left) left) ≡ cond t (h .report ∷ passing stays (reportsOf hs)) (passing stays (reportsOf hs))
+    go true e = ap (λ (rs : List Report). h .report ∷ rs) e
+    go false e = e
+
+moved-reports : (time : ℤ) (hs : List Held) → reportsOf (movedHeld time hs) ≡ reportsOf hs
+unfolding movedHeld
+moved-reports time [] = refl
+moved-reports time (h ∷ hs) = ap₂ (λ (r : Report) (rs : List Report). r ∷ rs) (same-report time h) (moved-reports time hs)
+
+stepped-reports : (time : ℤ) (l : Ledger) → reportsOf (stepped time l .held) ≡ passing (staysAt time) (reportsOf (l .held))
+unfolding stepped movedOn keeping
+stepped-reports time l = moved-reports time (passing (λ h. staysAt time (h .report)) (l .held)) ∙ kept-reports (staysAt time) (l .held)
 
 module _ (xs ys : List Held) (e : reportsOf xs ≡ reportsOf ys) where
   same-length : length xs ≡ length ys
@@ -97,17 +113,16 @@ not-told (Failed e) n c u r c′ u′ r′ ids = refl
 
 module _ (l m : Ledger) (same : SameReports l m) where
   step-shared : (time : ℤ) → reportsOf (stepped time l .held) ≡ reportsOf (stepped time m .held)
-  unfolding stepped
-  step-shared time = stepped-reports time (l .held) ∙ same .reports ∙ sym (stepped-reports time (m .held))
+  step-shared time = stepped-reports time l ∙ ap (passing (staysAt time)) (same .reports) ∙ sym (stepped-reports time m)
 
   change-shared : (c : Change) → SameReports (changed c (stepped (timeOf c) l)) (changed c (stepped (timeOf c) m))
-  unfolding stepped withReport withoutId
+  unfolding stepped movedOn withReport withoutId
   change-shared (Change.Add r) = record { now = refl; reports = ap (λ (rs : List Report). r ∷ rs) (step-shared (r .t)) }
   change-shared (Change.Report r) = record { now = refl; reports = ap (λ (rs : List Report). r ∷ rs) (same-without _ _ (step-shared (r .t)) (r .id)) }
   change-shared (Change.Drop id t) = record { now = refl; reports = same-without _ _ (step-shared t) id }
 
   left-shared : (call : Call) → SameReports (L.changedBy l call) (L.changedBy m call)
-  unfolding L.changedBy stepped
+  unfolding L.changedBy stepped movedOn
   left-shared (Call.Clock t) = record { now = refl; reports = step-shared t }
   left-shared (Call.Change c) = change-shared c
   left-shared (Call.Ask a) = same

@@ -33,7 +33,7 @@ use Rattle.rows.proofs.TableLaws.{length-newly-live-empty, newly-live-emptied, 
 use Rattle.rows.proofs.TableSlotLaws.{phase-in-slot, slot-cases, other-slot-kept}
 use Rattle.records.specs.Order.{keyIn, slotOfKey, numberOfKey}
 use Rattle.store.specs.Widening.{widenedByAll}
-use Rattle.store.specs.Stepping.{placedIn, stays, moves, replaced}
+use Rattle.store.specs.Stepping.{placedIn, livesOn, moves, replaced}
 use Rattle.records.specs.declared.Record.{Record}
 use Rattle.records.proofs.OrderKeysLaws.{slot-of-key-in, number-of-key-in}
 use Rattle.records.proofs.SoundnessRangeLaws.{drift-in-range}
@@ -41,11 +41,11 @@ use Rattle.store.proofs.SteppingLaws.{replaced-from}
 use Rattle.store.proofs.WideningLaws.{liesAt, speedsAt, Placeable, newBounds, withOne, bounds-inserted, with-speeds-length, row-with-speeds, none-elsewhere}
 use Rattle.store.proofs.WideningLaws as Records
 use Rattle.ledger.specs.Machine as Ledger
-use Rattle.ledger.specs.Machine.{Ledger, Held, Placement, placeIn, placement, newPlacements, livePlacements, stepped, withReport, speedsPlaced, rowsIn}
+use Rattle.ledger.specs.Machine.{Ledger, Held, Placement, placeIn, placement, newPlacements, livePlacements, movedOn, withReport, speedsPlaced, rowsIn}
 use Rattle.ledger.proofs.MachineLaws.{isThere, ownRow, speeds-append, speeds-live, no-speeds, speed-from}
 use Rattle.history.proofs.Relation.{recordOf, recordsOfHeld, GoodPlacement, Good, TableMatches}
-use Rattle.history.proofs.HeldRecords.{records-from, stays-held}
-use Rattle.history.proofs.GoodKept.{current-live, stepped-good}
+use Rattle.history.proofs.HeldRecords.{records-from, lives-on-held}
+use Rattle.history.proofs.GoodKept.{current-live, moved-good}
 
 -- ---- valid rows
 
@@ -100,7 +100,7 @@ module _ (c p q n : ℕ) (r : Report) (live-p : isLive c p ≡ true) (live-q : i
 pub placeable : (p : ℕ) (r : Report) → inRange r ≡ true → Placeable (placedIn p r)
 placeable p r h = record { slot-on = omega (arith, slot-of-key-in p r, slot-on p); in-range = drift-in-range r h }
 
--- ---- the clock step
+-- ---- the clock moved on
 
 -- the bounds of the speeds placed anew in a row, by the records and by the held reports
 pub bounds-alike : (now time : ℤ) (p n : ℕ) (hs : List Held) → ((h : Held) → List·Memᴰ h hs → isLive (phaseOf now) (h .phase) ≡ true) → isLive (phaseOf time) p ≡ true → n < cells
@@ -125,8 +125,8 @@ bounds-alike now time p n (h ∷ hs) each live k =
     one : Row
     one = rowOfDrift (driftOf (h .report))
 
-    phase : stays now time (recordOf h) ≡ isLive (phaseOf time) (h .phase)
-    phase = stays-held now time h (each h (List·Memᴰ·head refl))
+    phase : livesOn now time (recordOf h) ≡ isLive (phaseOf time) (h .phase)
+    phase = lives-on-held now time h (each h (List·Memᴰ·head refl))
 
     inner : (b : Bool) → cond b (joined one bounds) bounds ≡ boundsOf (cond b (one ∷ speeds) speeds)
     inner true = refl
@@ -193,11 +193,11 @@ module _ (l : Ledger) (table : List ℤ) (time : ℤ) (good : Good l) (matches :
         ∙ sym (ap boundsOf (speeds-live time p (cellOfNumber n) (l .placements) live)))
 
     good-after : (a : Placement) → List·Memᴰ a (livePlacements time (l .placements) ++ newPlacements time (l .held)) → GoodPlacement time a
-    unfolding stepped
-    good-after = stepped-good time l good is-time later .places
+    unfolding movedOn
+    good-after = moved-good time l good is-time later .places
 
-    row-stepped : rowAt (widenedByAll emptied anew) (slotOf p) n ≡ boundsOf (speedsPlaced p (cellOfNumber n) (livePlacements time (l .placements) ++ newPlacements time (l .held)))
-    row-stepped =
+    row-moved : rowAt (widenedByAll emptied anew) (slotOf p) n ≡ boundsOf (speedsPlaced p (cellOfNumber n) (livePlacements time (l .placements) ++ newPlacements time (l .held)))
+    row-moved =
         let v : validRow (rowAt emptied (slotOf p) n) ≡ true =
         ap validRow kept-row
         ∙ bounds-valid old (speeds-valid time p (cellOfNumber n) (livePlacements time (l .placements))
@@ -217,10 +217,10 @@ module _ (l : Ledger) (table : List ℤ) (time : ℤ) (good : Good l) (matches :
       ∙ ap₂ (λ (x : Row) (s : List Row). joined x (boundsOf s)) empty (none-elsewhere c′ (moves (l .now) time) slot n (recordsOfHeld (l .held)) (far c′ (current-live c′)))
       ∙ joined-same emptyRow
 
-  pub stepped-table : TableMatches (stepped time l) (widenedByAll emptied anew)
-  unfolding stepped rowsIn
-  stepped-table =
-      record { table-long = with-speeds-length emptied anew ∙ long; rows-are = λ p live n h. row-stepped p n live h; rest-empty = rest-stepped }
+  pub moved-table : TableMatches (movedOn time l) (widenedByAll emptied anew)
+  unfolding movedOn rowsIn
+  moved-table =
+      record { table-long = with-speeds-length emptied anew ∙ long; rows-are = λ p live n h. row-moved p n live h; rest-empty = rest-stepped }
 
 -- ---- a report placed in the current phase
 

@@ -27,7 +27,7 @@ ledger-after-one-more (first ∷ calls) l call = ledger-after-one-more calls (L.
 
 -- ---- at a point
 
-point-left : (l : Ledger) (w : Words) → Point l w → Left l w
+pub point-left : (l : Ledger) (w : Words) → Point l w → Left l w
 point-left l w p =
     rw (p .ledger-is, p .words-are) (every-point-matches (p .lent) (p .time) (p .opens) (p .calls))
 

@@ -2,7 +2,7 @@
 -- leaves match the ledger that is left, which is good.
 -- Assumes nothing.
 use mathlib.Core.Path.{_≡_, refl, sym, ap, ap₂, _∙_, subst}
-use mathlib.Core.Bool.{true, false, not}
+use mathlib.Core.Bool.{Bool, true, false, not}
 use mathlib.Core.List.{List, [], _∷_}
 use Prim.Native.Nat.{_<_}
 use native.Mathlib.Omega.{arith}
@@ -15,7 +15,7 @@ use Rattle.ints.proofs.Parts.{signed}
 use Rattle.ints.proofs.Least.{le-refl}
 use Rattle.ints.proofs.Truth.{and-true, and-left, or-neither}
 use Rattle.grid.specs.Units.{capacity}
-use Rattle.grid.specs.Reports.{isTime, inRange}
+use Rattle.grid.specs.Reports.{isTime, inRange, staysAt}
 use Rattle.grid.specs.declared.Report.{Report}
 use Rattle.rows.specs.Phases.{phaseOf}
 use Rattle.records.specs.Order.{hasId}
@@ -24,15 +24,15 @@ use Rattle.records.specs.declared.Record.{Record}
 use Rattle.store.specs.Inserting.{inserted}
 use Rattle.store.specs.Removing.{removed}
 use Rattle.store.specs.Widening.{widenedByAll}
-use Rattle.store.specs.Stepping.{placedIn, steppedRecords}
+use Rattle.store.specs.Stepping.{placedIn, movedRecords}
+use Rattle.retiring.specs.Retiring.{kept, steppedRecords}
 use Rattle.words.specs.Words as Index
 use Rattle.words.specs.Needs.{CanPlace}
-use Rattle.words.proofs.WordsSteppedLaws.{stepped-time, stepped-records, stepped-can-change}
+use Rattle.words.proofs.WordsMovedLaws.{moved-time, moved-records, moved-can-change}
+use Rattle.words.proofs.WordsSteppedLaws.{keeping-time, keeping-records, keeping-can-change}
 use Rattle.words.proofs.WordsPlacedLaws.{placed-time, placed-records, placed-can-change, taken-time, taken-records, taken-can-change}
 use Rattle.ledger.specs.Refusals.{Check, check, firstToFail, badStepTime, clockChecks, timeOf, idOf, badNumbers, heldChecks, changeChecks}
-use Rattle.ledger.specs.Machine.{Ledger, Held, isHeld, steppedHeld, stepped, withReport, withoutId, changed, rowsIn}
-use Rattle.ledger.specs.Calls as L
-use Rattle.ledger.specs.declared.Call.the-variants as Call
+use Rattle.ledger.specs.Machine.{Ledger, Held, isHeld, movedHeld, keeping, movedOn, stepped, withReport, withoutId, changed, rowsIn}
 use Rattle.ledger.specs.declared.Change.{Change}
 use Rattle.ledger.specs.declared.Change.the-variants as Change
 use Rattle.ledger.specs.declared.Refusal.the-variants.{BadTime, BadNumber, AlreadyHeld, NotHeld, Full}
@@ -43,9 +43,9 @@ use Rattle.engine.specs.Checks.{checksOfChange}
 use Rattle.engine.specs.Index as Engine
 use Rattle.engine.proofs.ChecksLaws.{can-step}
 use Rattle.history.proofs.Relation.{recordsOfHeld, TableMatches, Left}
-use Rattle.history.proofs.HeldRecords.{records-length, records-has, records-removed, records-stepped}
-use Rattle.history.proofs.GoodKept.{stepped-good, report-good, without-good, without-gone}
-use Rattle.history.proofs.PlacedRows.{stepped-table, report-table}
+use Rattle.history.proofs.HeldRecords.{records-length, records-has, records-removed, records-kept, records-moved}
+use Rattle.history.proofs.GoodKept.{keeping-good, moved-good, report-good, without-good, without-gone}
+use Rattle.history.proofs.PlacedRows.{moved-table, report-table}
 use Rattle.history.proofs.Sound.{matching-sound, count-is}
 
 -- a time that is not refused is in range and not before now
@@ -58,34 +58,66 @@ module _ (now t : ℤ) (h : badStepTime now t ≡ false) where
 
 -- ---- the clock step
 
+-- the floats that stay, whichever test says who does
+keep-left : (l : Ledger) (w : Words) → Left l w → (stays : Report → Bool) → Left (keeping stays l) (Index.keeping stays w)
+unfolding keeping rowsIn Index.keeping
+keep-left l w left stays =
+    let match = left .matches in
+    let table = match .table in
+    record {
+      good = keeping-good stays l (left .good);
+      matches = record {
+        can-change = keeping-can-change stays w (match .can-change);
+        time-is = keeping-time stays w ∙ match .time-is;
+        records-are = keeping-records stays w ∙ ap (kept stays) (match .records-are) ∙ records-kept stays (l .held) (left .good .once);
+        table = record { table-long = table .table-long; rows-are = table .rows-are; rest-empty = table .rest-empty };
+      };
+    }
+
+-- the clock moved on with them
 module _ (l : Ledger) (w : Words) (left : Left l w) (time : ℤ) where
-  -- the records after the step are those of the reports held after it
-  records-then : steppedRecords (timeIn w) time (recordsIn w) ≡ recordsOfHeld (steppedHeld time (l .held))
-  records-then =
+  -- the records then are those of the reports held then
+  records-on : movedRecords (timeIn w) time (recordsIn w) ≡ recordsOfHeld (movedHeld time (l .held))
+  records-on =
       let good = left .good in
       let match = left .matches in
-      ap₂ (λ (z : ℤ) (rs : List Record). steppedRecords z time rs) (match .time-is) (match .records-are)
-      ∙ records-stepped (l .now) time (l .held) (good .once) (λ h m. good .holds h m .live)
+      ap₂ (λ (z : ℤ) (rs : List Record). movedRecords z time rs) (match .time-is) (match .records-are)
+      ∙ records-moved (l .now) time (l .held) (good .once) (λ h m. good .holds h m .live)
 
-  pub step-left : badStepTime (l .now) time ≡ false → Left (stepped time l) (Index.stepped time w)
-  unfolding stepped Index.stepped Index.tableStepped
-  step-left fine =
+  move-left : badStepTime (l .now) time ≡ false → Left (movedOn time l) (Index.movedOn time w)
+  unfolding movedOn Index.movedOn Index.tableMoved
+  move-left fine =
       let good = left .good in
       let match = left .matches in
       let can = can-step w (matching-sound l w good match) time (ap (λ (z : ℤ). badStepTime z time) (match .time-is) ∙ fine) in
       let is-time = step-time (l .now) time fine in
       let later = step-later (l .now) time fine in
       record {
-        good = stepped-good time l good is-time later;
+        good = moved-good time l good is-time later;
         matches = record {
-          can-change = stepped-can-change w time can;
-          time-is = stepped-time w time can;
-          records-are = stepped-records w time can ∙ records-then;
-          table = subst (TableMatches (stepped time l))
-              (sym (ap₂ (λ (z : ℤ) (rs : List Record). Index.tableStepped z time rs (w .table)) (match .time-is) (match .records-are)))
-              (stepped-table l (w .table) time good (match .table) is-time later);
+          can-change = moved-can-change w time can;
+          time-is = moved-time w time can;
+          records-are = moved-records w time can ∙ records-on;
+          table = subst (TableMatches (movedOn time l))
+              (sym (ap₂ (λ (z : ℤ) (rs : List Record). Index.tableMoved z time rs (w .table)) (match .time-is) (match .records-are)))
+              (moved-table l (w .table) time good (match .table) is-time later);
         };
       }
+
+-- the whole step
+module _ (l : Ledger) (w : Words) (left : Left l w) (time : ℤ) where
+  then : Left (keeping (staysAt time) l) (Index.keeping (staysAt time) w)
+  then = keep-left l w left (staysAt time)
+
+  records-then : steppedRecords (timeIn w) time (recordsIn w) ≡ recordsOfHeld (stepped time l .held)
+  unfolding stepped movedOn steppedRecords
+  records-then =
+      ap₂ (λ (z : ℤ) (rs : List Record). movedRecords z time rs) (sym (keeping-time (staysAt time) w)) (sym (keeping-records (staysAt time) w))
+      ∙ records-on (keeping (staysAt time) l) (Index.keeping (staysAt time) w) then time
+
+  pub step-left : badStepTime (l .now) time ≡ false → Left (stepped time l) (Index.stepped time w)
+  unfolding stepped keeping Index.stepped
+  step-left fine = move-left (keeping (staysAt time) l) (Index.keeping (staysAt time) w) then time fine
 
 -- ---- what a change does after it
 
@@ -174,7 +206,7 @@ module _ (l : Ledger) (w : Words) (left : Left l w) where
       later-passed = others-passed (badNumbers c) BadNumber later numbers
 
   pub change-left : (c : Change) → firstToFail (checks c) ≡ Passed → Left (changed c (stepped (timeOf c) l)) (Engine.changed c (Index.stepped (timeOf c) w))
-  unfolding stepped withoutId
+  unfolding stepped movedOn withoutId
   change-left (Change.Add r) p =
       let hs = heldThen (Change.Add r) in
       let isIn = isHeld (r .id) hs in

@@ -7,7 +7,9 @@ use mathlib.Core.List.{List, [], _∷_, List·Memᴰ}
 use Prim.Native.Nat.{ℕ, _+_}
 use lib.IntN.{ℤ}
 use lib.ListN.{length}
+use Rattle.ints.specs.Lists.{passing}
 use Rattle.grid.specs.Places.{OnGrid}
+use Rattle.grid.specs.Reports.{isSilent}
 use Rattle.grid.specs.declared.Cell.{Cell}
 use Rattle.grid.specs.declared.Query.{Query}
 use Rattle.rows.specs.Row.{holds}
@@ -19,6 +21,7 @@ use Rattle.methods.specs.Slots.{rowsOfSlot}
 use Rattle.methods.specs.Claims.{Nested}
 use Rattle.records.specs.Words.{Words, timeIn}
 use Rattle.ledger.specs.Answers.{isAccepted, numberOf, countsOf}
+use Rattle.ledger.specs.Refusals.{timeOf}
 use Rattle.ledger.specs.Machine.{Ledger, opened, rowsIn, choiceAsked}
 use Rattle.ledger.specs.Calls as L
 use Rattle.ledger.specs.Calls.{Fed, Reply}
@@ -77,7 +80,7 @@ EveryPointAgrees =
     → (calls : List LentCall)
     → PointAgrees (after (openedWords w time) calls) (L.after (opened time) (fedAll calls))
 
--- ---- S11: floats held are the accepted adds less the accepted drops
+-- ---- S11, A7: floats held are the accepted adds less the accepted drops less the retirements
 
 abbrev pub countIf : Call → ℕ → ℕ → ℕ
 countIf (Call.Clock t) adds drops = 0
@@ -92,10 +95,24 @@ acceptedOf adds drops l [] = 0
 acceptedOf adds drops l (fed ∷ more) =
     cond (isAccepted (L.answerTo l fed)) (countIf (fed .call) adds drops) 0 + acceptedOf adds drops (L.next l fed) more
 
-abbrev pub HeldAreAddsLessDrops : Type 0
-HeldAreAddsLessDrops =
+-- the floats that a call retires where it is accepted: those silent at the time to which it steps
+abbrev pub silentAt : ℤ → Ledger → ℕ
+silentAt time l = length (passing (λ h. isSilent time (h .report .t)) (l .held))
+
+abbrev pub retires : Ledger → Call → ℕ
+retires l (Call.Clock t) = silentAt t l
+retires l (Call.Change c) = silentAt (timeOf c) l
+retires l (Call.Ask ask) = 0
+
+-- those of some calls, from a ledger on
+unfoldable pub retirements : Ledger → List Fed → ℕ
+retirements l [] = 0
+retirements l (fed ∷ more) = cond (isAccepted (L.answerTo l fed)) (retires l (fed .call)) 0 + retirements (L.next l fed) more
+
+abbrev pub HeldAreAddsLessDropsLessRetirements : Type 0
+HeldAreAddsLessDropsLessRetirements =
     (time : ℤ) (calls : List Fed)
-    → length (L.after (opened time) calls .held) + acceptedOf 0 1 (opened time) calls ≡ acceptedOf 1 0 (opened time) calls
+    → length (L.after (opened time) calls .held) + acceptedOf 0 1 (opened time) calls + retirements (opened time) calls ≡ acceptedOf 1 0 (opened time) calls
 
 -- ---- numbers 1 and 2 never come up in a list
 

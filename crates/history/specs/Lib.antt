@@ -5,4 +5,5 @@ pub mod Windows
 pub mod ReportTimes
 pub mod ListsAsBefore
 pub mod Points
+pub mod Silence
 pub mod Examples

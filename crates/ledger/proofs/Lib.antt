@@ -1,3 +1,4 @@
+pub mod ExamplesCrowdLaws
 pub mod Examples
 pub mod MachineLaws
 pub mod MachineIdsLaws
@@ -6,3 +7,4 @@ pub mod RefusalsLaws
 pub mod Claims
 pub mod WindowExamples
 pub mod ReportTimeExamples
+pub mod RetiringExamples

@@ -21,30 +21,30 @@ use Rattle.grid.proofs.PlacesLaws.{cell-same}
 use Rattle.rows.specs.Row.{rowOfDrift}
 use Rattle.rows.specs.Phases.{phaseOf, isLive}
 use Rattle.rows.specs.declared.Row.{Row}
-use Rattle.ledger.specs.Machine.{Held, Placement, placement, stays, moves, steppedOne, steppedHeld, newPlacements, livePlacements, isHeld, without, speedsPlaced}
+use Rattle.ledger.specs.Machine.{Held, Placement, placement, livesOn, moves, movedOne, movedHeld, newPlacements, livePlacements, isHeld, without, speedsPlaced}
 
 -- ---- held reports after the clock step
 
-pub same-report : (time : ℤ) (h : Held) → steppedOne time h .report ≡ h .report
-same-report time h = go (stays time h)
+pub same-report : (time : ℤ) (h : Held) → movedOne time h .report ≡ h .report
+same-report time h = go (livesOn time h)
   where
     go : (t : Bool) → cond {A = Held} t h (record { report = h .report; phase = phaseOf time }) .report ≡ h .report
     go true = refl
     go false = refl
 
-pub stepped-length : (time : ℤ) (hs : List Held) → length (steppedHeld time hs) ≡ length hs
-unfolding steppedHeld
-stepped-length time hs = length-map hs (steppedOne time)
+pub moved-length : (time : ℤ) (hs : List Held) → length (movedHeld time hs) ≡ length hs
+unfolding movedHeld
+moved-length time hs = length-map hs (movedOne time)
 
-pub stepped-held : (time : ℤ) (id : ℤ) (hs : List Held) → isHeld id (steppedHeld time hs) ≡ isHeld id hs
-unfolding steppedHeld some
-stepped-held time id [] = refl
-stepped-held time id (h ∷ hs) = rw (same-report time h, stepped-held time id hs)
+pub moved-held : (time : ℤ) (id : ℤ) (hs : List Held) → isHeld id (movedHeld time hs) ≡ isHeld id hs
+unfolding movedHeld some
+moved-held time id [] = refl
+moved-held time id (h ∷ hs) = rw (same-report time h, moved-held time id hs)
 
 -- each comes from one that was held
-pub stepped-from : {x : Held} (time : ℤ) (hs : List Held) → List·Memᴰ x (steppedHeld time hs) → (h : Held) × List·Memᴰ h hs × (x ≡ steppedOne time h)
-unfolding steppedHeld
-stepped-from time hs m = map-in (steppedOne time) hs m
+pub moved-from : {x : Held} (time : ℤ) (hs : List Held) → List·Memᴰ x (movedHeld time hs) → (h : Held) × List·Memᴰ h hs × (x ≡ movedOne time h)
+unfolding movedHeld
+moved-from time hs m = map-in (movedOne time) hs m
 
 -- ---- held reports after a drop
 

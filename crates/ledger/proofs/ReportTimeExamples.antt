@@ -7,14 +7,14 @@ use Rattle.ints.specs.Lists.{passing, some}
 use Rattle.grid.specs.Places.{columnOf, cellSpan}
 use Rattle.grid.specs.Curve.{numberAt}
 use Rattle.grid.specs.Moments.{passageOf, meeting, insideDuring}
-use Rattle.grid.specs.Reports.{inRange, xAt, yAt, inRect, insideAt, isListed}
+use Rattle.grid.specs.Reports.{inRange, xAt, yAt, inRect, insideAt, isSilent, isListed}
 use Rattle.rows.specs.Row.{joined, sameRow, isEmpty, boundsOf}
 use Rattle.rows.specs.Phases.{phaseOf, referenceTime, isLive, livePhases}
 use Rattle.methods.specs.Reach.{expandedRange, expandedRect, expandedWindow, blockOf, cellsOfRow, cellsOfRows, cellsOf}
 use Rattle.methods.specs.Reach.{movedSpan, meets, movedCellMeets, movedAroundMeets}
 use Rattle.methods.specs.Methods.{boundsIn, expandedBlock, iterated, choice}
 use Rattle.ledger.specs.Refusals.{firstToFail, isRectangle}
-use Rattle.ledger.specs.Machine.{opened, steppedHeld, newPlacements, livePlacements, stepped, without, withReport}
+use Rattle.ledger.specs.Machine.{opened, movedHeld, newPlacements, livePlacements, keeping, movedOn, stepped, without, withReport}
 use Rattle.ledger.specs.Machine.{withoutId, speedsPlaced, rowsIn, usefulCells, putInOrder, idsInOrder, summed}
 use Rattle.ledger.specs.Calls.{answerTo, changedBy, idsOf, next, replyTo, replies, after}
 use Rattle.ledger.specs.ReportTimeExamples.{aboard, aboardSays, anew, anewSays}
@@ -22,7 +22,7 @@ use Rattle.ledger.specs.ReportTimeExamples.{aboard, aboardSays, anew, an
 pub reports-as-said : (replies (opened (pos 0)) aboard ≡ aboardSays) × (replies (opened (pos 0)) anew ≡ anewSays)
 unfolding aboard aboardSays anew anewSays
     columnOf cellSpan numberAt minZ maxZ eqZ passing some joined sameRow isEmpty boundsOf expandedRange expandedRect expandedWindow blockOf cellsOfRow cellsOfRows cellsOf
-    movedSpan meets movedCellMeets movedAroundMeets boundsIn expandedBlock iterated choice inRange xAt yAt inRect insideAt passageOf meeting insideDuring isListed phaseOf
-    referenceTime isLive livePhases firstToFail isRectangle steppedHeld newPlacements livePlacements stepped without withReport withoutId speedsPlaced rowsIn
+    movedSpan meets movedCellMeets movedAroundMeets boundsIn expandedBlock iterated choice inRange xAt yAt inRect insideAt passageOf meeting insideDuring isSilent isListed phaseOf
+    referenceTime isLive livePhases firstToFail isRectangle movedHeld newPlacements livePlacements keeping movedOn stepped without withReport withoutId speedsPlaced rowsIn
     usefulCells putInOrder idsInOrder summed answerTo changedBy idsOf next replyTo replies after
 reports-as-said = (refl, refl)

@@ -6,3 +6,4 @@ pub mod Claims
 pub mod Examples
 pub mod WindowExamples
 pub mod ReportTimeExamples
+pub mod RetiringExamples

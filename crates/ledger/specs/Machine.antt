@@ -1,5 +1,5 @@
--- The plain ledger: document 01, "The plain ledger". It keeps the time, the held reports and the placements, and knows nothing of buffers, keys
--- or slots.
+-- The plain ledger: document 01, "The plain ledger", and document 02, A7, for floats that retire. It keeps the time, the held reports and the
+-- placements, and knows nothing of buffers, keys or slots.
 -- Assumes nothing.
 use mathlib.Core.Bool.{Bool, _&&_, cond, not}
 use mathlib.Core.List.{List, [], _∷_, _++_, map}
@@ -10,7 +10,7 @@ use lib.ListN.{length}
 use Rattle.ints.specs.Whole.{eqZ, up}
 use Rattle.ints.specs.Lists.{passing, some}
 use Rattle.grid.specs.Places.{sameCell}
-use Rattle.grid.specs.Reports.{cellAtTime, isListed}
+use Rattle.grid.specs.Reports.{cellAtTime, staysAt, isListed}
 use Rattle.grid.specs.declared.Cell.{Cell}
 use Rattle.grid.specs.declared.Query.{Query}
 use Rattle.grid.specs.declared.Report.{Report}
@@ -53,19 +53,27 @@ opened t = record { now = t; held = []; placements = [] }
 
 -- ---- the clock step to a time, which clock, add, report and drop share
 
--- a float whose phase lives on stays
-abbrev pub stays : ℤ → Held → Bool
-stays time h = isLive (phaseOf time) (h .phase)
+-- the floats whose report passes a test stay held. Placements are as they were: the rows of a float that goes stay till their phase dies
+unfoldable pub keeping : (Report → Bool) → Ledger → Ledger
+keeping stays l = record {
+  now = l .now;
+  held = passing (λ h. stays (h .report)) (l .held);
+  placements = l .placements;
+}
+
+-- a float whose phase lives on stays placed as it is
+abbrev pub livesOn : ℤ → Held → Bool
+livesOn time h = isLive (phaseOf time) (h .phase)
 
 -- any other moves: it is placed in the phase of the time
 abbrev pub moves : ℤ → Held → Bool
-moves time h = not (stays time h)
+moves time h = not (livesOn time h)
 
-abbrev pub steppedOne : ℤ → Held → Held
-steppedOne time h = cond (stays time h) h (record { report = h .report; phase = phaseOf time })
+abbrev pub movedOne : ℤ → Held → Held
+movedOne time h = cond (livesOn time h) h (record { report = h .report; phase = phaseOf time })
 
-unfoldable pub steppedHeld : ℤ → List Held → List Held
-steppedHeld time hs = map (steppedOne time) hs
+unfoldable pub movedHeld : ℤ → List Held → List Held
+movedHeld time hs = map (movedOne time) hs
 
 -- re-placed floats append one
 unfoldable pub newPlacements : ℤ → List Held → List Placement
@@ -75,12 +83,17 @@ newPlacements time hs = map (λ h. placement (phaseOf time) (h .report)) (passin
 unfoldable pub livePlacements : ℤ → List Placement → List Placement
 livePlacements time ps = passing (λ p. isLive (phaseOf time) (p .phase)) ps
 
-unfoldable pub stepped : ℤ → Ledger → Ledger
-stepped time l = record {
+-- the clock moved on, with the floats that are held
+unfoldable pub movedOn : ℤ → Ledger → Ledger
+movedOn time l = record {
   now = time;
-  held = steppedHeld time (l .held);
+  held = movedHeld time (l .held);
   placements = livePlacements time (l .placements) ++ newPlacements time (l .held);
 }
+
+-- first every silent float retires, then the others are re-placed
+unfoldable pub stepped : ℤ → Ledger → Ledger
+stepped time l = movedOn time (keeping (staysAt time) l)
 
 -- ---- the changes after it
 

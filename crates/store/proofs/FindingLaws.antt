@@ -1,26 +1,22 @@
--- The laws of finding a record: what a walk over the records of a store finds, and whether an id is held.
+-- The laws of finding a record: what a walk over the records of a store finds.
 -- Assumes nothing.
-use mathlib.Core.Path.{_≡_, refl, sym, ap, _∙_}
-use mathlib.Core.Bool.{Bool, true, false, cond, _||_}
-use mathlib.Core.List.{List, [], _∷_}
+use mathlib.Core.Path.{_≡_, ap, _∙_}
+use mathlib.Core.Bool.{Bool, true, false}
+use mathlib.Core.List.{List, _∷_}
 use Prim.Native.Nat.{ℕ, suc, _+_, _-_, _*_, _≤_, _<_, _^_}
 use native.Mathlib.Omega.{arith}
 use lib.IntN.{ℤ}
 use lib.Signed.{mag}
-use lib.Dec.{ltb}
-use lib.ListN.{length, drop}
+use lib.ListN.{drop}
 use lib.Seq.{drop-drop}
-use borrow.Author.Tests.{lt-ltb, le-ltb, ltb-true, ltb-false}
 use mir.Syntax.{w32}
 use mir.Val.{hbits}
-use Rattle.ints.specs.Lists.{some}
 use Rattle.ints.specs.Whole.{eqZ}
 use Rattle.ints.proofs.Machine.{back, held}
 use Rattle.records.specs.Records.{recordWords, recordFrom, heldOf, readRecords, recordsOf}
-use Rattle.records.specs.Order.{precedes, hasId}
+use Rattle.records.specs.Order.{precedes}
 use Rattle.records.specs.Places.{firstOf}
-use Rattle.store.specs.Finding.{indexOf, hasThat}
-use Rattle.records.proofs.RecordsLaws.{held-records}
+use Rattle.store.specs.Finding.{hasThat}
 use Rattle.records.specs.declared.Record.{Record}
 use Rattle.records.proofs.PlacesLaws.{record-at}
 
@@ -88,25 +84,3 @@ module _
 
 pub index-read : (s : List ℤ) (id : ℤ) (p : ℕ) → p ≡ firstOf (hasThat (back w32 id)) (recordsOf s) → mag id < 2 ^ hbits w32 → p ≡ firstOf (hasThat id) (recordsOf s)
 index-read s id p e g = e ∙ ap (λ (z : ℤ). firstOf (hasThat z) (recordsOf s)) (held w32 id g)
-
--- ---- whether an id is held
-
-ltb-suc : (a b : ℕ) → ltb (suc a) (suc b) ≡ ltb a b
-ltb-suc a b = go (ltb a b) refl
-  where
-    go : (t : Bool) → ltb a b ≡ t → ltb (suc a) (suc b) ≡ ltb a b
-    go true e = lt-ltb (suc a) (suc b) (omega (arith, ltb-true a b e)) ∙ sym e
-    go false e = le-ltb (suc a) (suc b) (omega (arith, ltb-false a b e)) ∙ sym e
-
-pub has-found : (id : ℤ) (rs : List Record) → ltb (indexOf id rs) (length rs) ≡ hasId id rs
-unfolding firstOf some
-has-found id [] = refl
-has-found id (a ∷ rs) = go (eqZ (a .report .id) id) (has-found id rs)
-  where
-    go : (b : Bool) → ltb (firstOf (hasThat id) rs) (length rs) ≡ hasId id rs → ltb (cond b 0 (suc (firstOf (hasThat id) rs))) (suc (length rs)) ≡ b || hasId id rs
-    go true h = lt-ltb 0 (suc (length rs)) (omega arith)
-    go false h = ltb-suc (firstOf (hasThat id) rs) (length rs) ∙ h
-
--- whether an id is held, by the place where the walk over the records ends
-pub id-found : (s : List ℤ) (id : ℤ) (p n : ℕ) → p ≡ indexOf id (recordsOf s) → n ≡ heldOf s → ltb p n ≡ hasId id (recordsOf s)
-id-found s id p n ep en = rw (ep, en, ← held-records s) (has-found id (recordsOf s))

@@ -7,3 +7,4 @@ pub mod SteppingLaws
 pub mod SteppingWordsLaws
 pub mod WideningLaws
 pub mod WritingLaws
+pub mod WritingKeptLaws

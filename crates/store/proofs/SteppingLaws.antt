@@ -1,8 +1,8 @@
--- The records of a clock step: those that stay and those that are placed anew. What a step keeps (their number, ranges, order and ids), and that it
+-- The records when the clock moves on: those that stay and those that are placed anew. What it keeps (their number, ranges, order and ids), and that it
 -- makes no difference whether one record more is put in before or after. Who stays and who moves are any two tests until the last section.
 -- Assumes nothing.
 use mathlib.Core.Path.{_≡_, refl, sym, ap, _∙_}
-use mathlib.Core.Bool.{Bool, true, false, cond, not, _&&_, _||_, or-assoc, and-not-self, or-not-self}
+use mathlib.Core.Bool.{Bool, true, false, cond, _&&_, _||_, or-assoc, and-not-self, or-not-self}
 use mathlib.Core.List.{List, [], _∷_, map, List·Memᴰ, List·Memᴰ·cases-cons}
 use mathlib.Core.Logic.{⊎-elim}
 use Prim.Native.Nat.{ℕ, suc, _+_, _≤_}
@@ -10,11 +10,12 @@ use native.Mathlib.Omega.{arith}
 use lib.IntN.{ℤ}
 use lib.ListN.{length, length-map}
 use Rattle.ints.specs.Whole.{eqZ}
-use Rattle.ints.specs.Lists.{passing, some}
+use Rattle.ints.specs.Lists.{passing, some, every}
 use Rattle.ints.proofs.Parts.{true-false}
 use Rattle.ints.proofs.Truth.{or-swap, or-both}
 use Rattle.ints.proofs.Same.{same-comm}
 use Rattle.ints.proofs.Lists.{map-in, passing-in, none-passes, passing-some, some-map, every-each, each-every}
+use Rattle.grid.specs.declared.Report.{Report}
 use Rattle.rows.specs.Phases.{phaseOf}
 use Rattle.records.specs.Order.{precedes, isSorted, hasId}
 use Rattle.records.specs.Soundness.{isRanged, allRanged, idsDistinct}
@@ -23,7 +24,7 @@ use Rattle.records.proofs.SoundnessRangeLaws.{ranged-parts, parts-ranged}
 use Rattle.records.proofs.OrderKeysLaws.{key-in-below}
 use Rattle.records.proofs.OrderLaws.{sorted-all, sorted-rest, sorted-cons, before-all, rest-other, first-alone, rest-distinct, distinct-cons}
 use Rattle.store.specs.Inserting.{inserted, insertedAll}
-use Rattle.store.specs.Stepping.{placedIn, stays, moves, replaced, steppedRecords}
+use Rattle.store.specs.Stepping.{placedIn, livesOn, moves, replaced, movedRecords}
 use Rattle.store.proofs.InsertingLaws.{inserted-front, inserted-all-swap, all-length, all-every, has-all, all-sorted}
 
 -- ---- of some records, those that pass a test
@@ -33,7 +34,7 @@ module _ (test : Record → Bool) where
   abbrev PassingOne : Record → List Record → Type 0
   PassingOne r rs = passing test (inserted r rs) ≡ inserted r (passing test rs)
 
-  passing-one : (r : Record) (rs : List Record) → test r ≡ true → isSorted rs ≡ true → PassingOne r rs
+  pub passing-one : (r : Record) (rs : List Record) → test r ≡ true → isSorted rs ≡ true → PassingOne r rs
   unfolding passing inserted
   passing-one r [] e o = rw e
   passing-one r (a ∷ rs) e o = go (precedes r a) refl (passing-one r rs e (sorted-rest a rs o))
@@ -48,7 +49,7 @@ module _ (test : Record → Bool) where
       go false f k = apart f k (test a)
 
   -- one more that does not
-  passing-other : (r : Record) (rs : List Record) → test r ≡ false → passing test (inserted r rs) ≡ passing test rs
+  pub passing-other : (r : Record) (rs : List Record) → test r ≡ false → passing test (inserted r rs) ≡ passing test rs
   unfolding passing inserted
   passing-other r [] e = rw e
   passing-other r (a ∷ rs) e = go (precedes r a) (passing-other r rs e)
@@ -57,7 +58,7 @@ module _ (test : Record → Bool) where
       go true k = rw e
       go false k = rw k
 
-  passing-sorted : (rs : List Record) → isSorted rs ≡ true → isSorted (passing test rs) ≡ true
+  pub passing-sorted : (rs : List Record) → isSorted rs ≡ true → isSorted (passing test rs) ≡ true
   unfolding passing
   passing-sorted [] h = h
   passing-sorted (a ∷ rs) h = go (test a) (passing-sorted rs (sorted-rest a rs h))
@@ -66,7 +67,7 @@ module _ (test : Record → Bool) where
       go true i = sorted-cons a (passing test rs) (λ x m. sorted-all a rs h (passing-in test rs m .0)) i
       go false i = i
 
-  passing-distinct : (rs : List Record) → idsDistinct rs ≡ true → idsDistinct (passing test rs) ≡ true
+  pub passing-distinct : (rs : List Record) → idsDistinct rs ≡ true → idsDistinct (passing test rs) ≡ true
   unfolding passing
   passing-distinct [] h = h
   passing-distinct (a ∷ rs) h = go (test a) (passing-distinct rs (rest-distinct a rs h))
@@ -132,20 +133,20 @@ module _ (p : ℕ) (moving : Record → Bool) where
 
 module _ (p : ℕ) (staying moving : Record → Bool) where
   -- those that stay, and among them those that move, placed in phase p
-  abbrev pub steppedBy : List Record → List Record
-  steppedBy rs = insertedAll (replaced p moving rs) (passing staying rs)
+  abbrev pub movedBy : List Record → List Record
+  movedBy rs = insertedAll (replaced p moving rs) (passing staying rs)
 
   -- the step of a list and one record more, which stays or moves
-  pub stepped-kept : (r : Record) (rs : List Record) → staying r ≡ true → moving r ≡ false → hasId (r .report .id) rs ≡ false → isSorted rs ≡ true
-      → steppedBy (inserted r rs) ≡ inserted r (steppedBy rs)
-  stepped-kept r rs e f n o =
+  pub moved-kept : (r : Record) (rs : List Record) → staying r ≡ true → moving r ≡ false → hasId (r .report .id) rs ≡ false → isSorted rs ≡ true
+      → movedBy (inserted r rs) ≡ inserted r (movedBy rs)
+  moved-kept r rs e f n o =
       ap (λ (l : List Record). insertedAll (map (λ x. placedIn p (x .report)) l) (passing staying (inserted r rs))) (passing-other moving r rs f)
       ∙ ap (insertedAll (replaced p moving rs)) (passing-one staying r rs e o)
       ∙ inserted-all-swap r (replaced p moving rs) (passing staying rs) (has-replaced p moving (r .report .id) rs n)
 
-  pub stepped-replaced : (r : Record) (rs : List Record) → staying r ≡ false → moving r ≡ true → hasId (r .report .id) rs ≡ false
-      → steppedBy (inserted r rs) ≡ inserted (placedIn p (r .report)) (steppedBy rs)
-  stepped-replaced r rs e f n =
+  pub moved-replaced : (r : Record) (rs : List Record) → staying r ≡ false → moving r ≡ true → hasId (r .report .id) rs ≡ false
+      → movedBy (inserted r rs) ≡ inserted (placedIn p (r .report)) (movedBy rs)
+  moved-replaced r rs e f n =
       ap (insertedAll (replaced p moving (inserted r rs))) (passing-other staying r rs e)
       ∙ replaced-one p moving r rs (passing staying rs) f n
 
@@ -246,15 +247,15 @@ module _ (p : ℕ) (staying moving : Record → Bool) where
   pub by-few : NotBoth staying moving → (rs : List Record) → length (replaced p moving rs) + length (passing staying rs) ≤ length rs
   by-few n rs = let e = length-map (passing moving rs) (λ r. placedIn p (r .report)) in omega (arith, e, step-few staying moving n rs)
 
-  pub by-length : NotBoth staying moving → (rs : List Record) → length (steppedBy p staying moving rs) ≤ length rs
+  pub by-length : NotBoth staying moving → (rs : List Record) → length (movedBy p staying moving rs) ≤ length rs
   by-length n rs = omega (arith, all-length (replaced p moving rs) (passing staying rs), by-few n rs)
 
-  pub by-whole : NotBoth staying moving → NoneLeaves staying moving → (rs : List Record) → length (steppedBy p staying moving rs) ≡ length rs
+  pub by-whole : NotBoth staying moving → NoneLeaves staying moving → (rs : List Record) → length (movedBy p staying moving rs) ≡ length rs
   by-whole n w rs =
       let e = length-map (passing moving rs) (λ r. placedIn p (r .report)) in
       omega (arith, e, all-length (replaced p moving rs) (passing staying rs), step-few staying moving n rs, step-whole staying moving w rs)
 
-  pub by-ranged : (rs : List Record) → allRanged rs ≡ true → allRanged (steppedBy p staying moving rs) ≡ true
+  pub by-ranged : (rs : List Record) → allRanged rs ≡ true → allRanged (movedBy p staying moving rs) ≡ true
   by-ranged rs h =
       all-every isRanged (replaced p moving rs) (passing staying rs)
       (each-every isRanged (replaced p moving rs) (λ x m.
@@ -262,15 +263,24 @@ module _ (p : ℕ) (staying moving : Record → Bool) where
       ap isRanged (from .2) ∙ placed-ranged p (from .0) (every-each isRanged rs h (from .1))))
       (each-every isRanged (passing staying rs) (λ x m. every-each isRanged rs h (passing-in staying rs m .0)))
 
+  -- what holds of all reports holds of them then
+  pub by-reports : (f : Report → Bool) (rs : List Record) → every (λ r. f (r .report)) rs ≡ true → every (λ r. f (r .report)) (movedBy p staying moving rs) ≡ true
+  by-reports f rs h =
+      all-every (λ r. f (r .report)) (replaced p moving rs) (passing staying rs)
+      (each-every (λ r. f (r .report)) (replaced p moving rs) (λ x m.
+      let from = replaced-from p moving rs m in
+      ap (λ (r : Record). f (r .report)) (from .2) ∙ every-each (λ r. f (r .report)) rs h (from .1)))
+      (each-every (λ r. f (r .report)) (passing staying rs) (λ x m. every-each (λ r. f (r .report)) rs h (passing-in staying rs m .0)))
+
   -- where nobody leaves, a step keeps the ids
-  pub by-has : NoneLeaves staying moving → (id : ℤ) (rs : List Record) → hasId id (steppedBy p staying moving rs) ≡ hasId id rs
+  pub by-has : NoneLeaves staying moving → (id : ℤ) (rs : List Record) → hasId id (movedBy p staying moving rs) ≡ hasId id rs
   by-has n id rs =
       has-all id (replaced p moving rs) (passing staying rs)
       ∙ ap (λ (b : Bool). b || hasId id (passing staying rs)) (has-anew p id (passing moving rs))
       ∙ has-step staying moving n id rs
 
   -- a step keeps the order
-  pub by-sorted : NotBoth staying moving → (rs : List Record) → isSorted rs ≡ true → idsDistinct rs ≡ true → isSorted (steppedBy p staying moving rs) ≡ true
+  pub by-sorted : NotBoth staying moving → (rs : List Record) → isSorted rs ≡ true → idsDistinct rs ≡ true → isSorted (movedBy p staying moving rs) ≡ true
   by-sorted n rs s h =
       all-sorted (replaced p moving rs) (passing staying rs)
       (record {
@@ -281,36 +291,40 @@ module _ (p : ℕ) (staying moving : Record → Bool) where
       })
       (passing-sorted staying rs s)
 
--- ---- the clock step of a store's records
+-- ---- a store's records when the clock moves on
 
 module _ (now time : ℤ) where
-  not-both : NotBoth (stays now time) (moves now time)
-  not-both r = and-not-self (stays now time r)
+  not-both : NotBoth (livesOn now time) (moves now time)
+  not-both r = and-not-self (livesOn now time r)
 
-  -- today nobody leaves: a record stays or moves
-  none-leaves : NoneLeaves (stays now time) (moves now time)
-  none-leaves r = or-not-self (stays now time r)
+  -- nobody leaves: a record stays as it is or moves
+  none-leaves : NoneLeaves (livesOn now time) (moves now time)
+  none-leaves r = or-not-self (livesOn now time r)
 
-  pub halves-few : (rs : List Record) → length (replaced (phaseOf time) (moves now time) rs) + length (passing (stays now time) rs) ≤ length rs
-  halves-few = by-few (phaseOf time) (stays now time) (moves now time) not-both
+  pub halves-few : (rs : List Record) → length (replaced (phaseOf time) (moves now time) rs) + length (passing (livesOn now time) rs) ≤ length rs
+  halves-few = by-few (phaseOf time) (livesOn now time) (moves now time) not-both
 
-  pub stepped-few : (rs : List Record) → length (steppedRecords now time rs) ≤ length rs
-  unfolding steppedRecords
-  stepped-few = by-length (phaseOf time) (stays now time) (moves now time) not-both
+  pub moved-few : (rs : List Record) → length (movedRecords now time rs) ≤ length rs
+  unfolding movedRecords
+  moved-few = by-length (phaseOf time) (livesOn now time) (moves now time) not-both
 
-  pub stepped-ranged : (rs : List Record) → allRanged rs ≡ true → allRanged (steppedRecords now time rs) ≡ true
-  unfolding steppedRecords
-  stepped-ranged = by-ranged (phaseOf time) (stays now time) (moves now time)
+  pub moved-ranged : (rs : List Record) → allRanged rs ≡ true → allRanged (movedRecords now time rs) ≡ true
+  unfolding movedRecords
+  moved-ranged = by-ranged (phaseOf time) (livesOn now time) (moves now time)
 
-  pub stepped-sorted : (rs : List Record) → isSorted rs ≡ true → idsDistinct rs ≡ true → isSorted (steppedRecords now time rs) ≡ true
-  unfolding steppedRecords
-  stepped-sorted = by-sorted (phaseOf time) (stays now time) (moves now time) not-both
+  pub moved-sorted : (rs : List Record) → isSorted rs ≡ true → idsDistinct rs ≡ true → isSorted (movedRecords now time rs) ≡ true
+  unfolding movedRecords
+  moved-sorted = by-sorted (phaseOf time) (livesOn now time) (moves now time) not-both
+
+  pub moved-reports : (f : Report → Bool) (rs : List Record) → every (λ r. f (r .report)) rs ≡ true → every (λ r. f (r .report)) (movedRecords now time rs) ≡ true
+  unfolding movedRecords
+  moved-reports = by-reports (phaseOf time) (livesOn now time) (moves now time)
 
   -- nobody comes or goes
-  pub stepped-length : (rs : List Record) → length (steppedRecords now time rs) ≡ length rs
-  unfolding steppedRecords
-  stepped-length = by-whole (phaseOf time) (stays now time) (moves now time) not-both none-leaves
+  pub moved-length : (rs : List Record) → length (movedRecords now time rs) ≡ length rs
+  unfolding movedRecords
+  moved-length = by-whole (phaseOf time) (livesOn now time) (moves now time) not-both none-leaves
 
-  pub has-stepped : (id : ℤ) (rs : List Record) → hasId id (steppedRecords now time rs) ≡ hasId id rs
-  unfolding steppedRecords
-  has-stepped = by-has (phaseOf time) (stays now time) (moves now time) none-leaves
+  pub has-moved : (id : ℤ) (rs : List Record) → hasId id (movedRecords now time rs) ≡ hasId id rs
+  unfolding movedRecords
+  has-moved = by-has (phaseOf time) (livesOn now time) (moves now time) none-leaves

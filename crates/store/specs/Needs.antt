@@ -4,9 +4,9 @@
 use mathlib.Core.Path.{_≡_}
 use mathlib.Core.Bool.{Bool, true}
 use mathlib.Core.List.{List, _++_}
-use Prim.Native.Nat.{ℕ, _+_, _*_, _≤_, _<_}
-use lib.IntN.{ℤ}
-use lib.ListN.{length, take, drop}
+use Prim.Native.Nat.{ℕ, _+_, _-_, _*_, _≤_, _<_}
+use lib.IntN.{ℤ, pos}
+use lib.ListN.{length, take, drop, set, replicate}
 use Rattle.ints.specs.Lists.{passing}
 use Rattle.grid.specs.Units.{capacity}
 use Rattle.grid.specs.Curve.{IsCurve}
@@ -27,6 +27,19 @@ use Rattle.records.specs.Places.{HasWords}
 pub record HeldAsked (s : List ℤ) (n : ℕ) : Type 0 where
   pub count-word : 1 < length s
   pub few : n ≤ capacity
+
+-- k records of n to keep
+pub record KeepAsked (s : List ℤ) (k n : ℕ) : Type 0 where
+  pub within : k ≤ n
+  pub few : n ≤ capacity
+  pub long : recordWords * n + recordWords ≤ length s
+
+-- the first k of n records kept: the words of the others zeroed, the count set
+abbrev pub firstKept : ℕ → ℕ → List ℤ → List ℤ
+firstKept k n s =
+    let start = recordWords * k + recordWords in
+    let end = recordWords * n + recordWords in
+    set (take start s ++ (replicate (end - start) (pos 0) ++ drop end s)) 1 (pos k)
 
 -- ---- inserting.rt: a record put in
 

@@ -3,8 +3,6 @@ ghost use mathlib.Core.Path.{_≡_};
 ghost use Prim.Native.Nat.{_≤_, _+_, _*_};
 ghost use lib.ListN.{length};
 ghost use Rattle.records.specs.Records.{recordWords, heldOf, recordsOf};
-ghost use Rattle.records.specs.Order.{hasId};
-ghost use Rattle.records.specs.Soundness.{IsStore};
 ghost use Rattle.store.specs.Finding.{placeOf, indexOf};
 use records::RECORD_WORDS;
 use records::Record;
@@ -44,11 +42,4 @@ pub fn place_of(store: &[i32], r: Record) -> usize
         i += 1;
     }
     i
-}
-
-pub fn has_id(store: &[i32], id: i32) -> bool
-    requires { ⌜ IsStore (now store) ⌝ }
-    ensures { λ r. ⌜ r ≡ hasId id (recordsOf (now (store .entry))) ⌝ }
-{
-    index_of(store, id) < held_of(store)
 }

@@ -1,5 +1,5 @@
-// The clock step of a store's records: those whose phase lives on stay as they are, the others are placed in the phase of the time. The time itself
-// is set by `writing::set_now`.
+// The second half of a clock step of a store's records, when those of silent floats are gone: those whose phase lives on stay as they are, the others are
+// placed in the phase of the time. The time itself is set by `writing::set_now`.
 ghost use mathlib.Core.Path.{_≡_};
 ghost use Prim.Native.Nat.{_-_};
 ghost use Rattle.ints.specs.Lists.{passing};
@@ -7,12 +7,11 @@ ghost use Rattle.rows.specs.Phases.{phaseOf};
 ghost use Rattle.records.specs.Records.{nowOf, heldOf, readRecords, recordsOf, storeOf};
 ghost use Rattle.store.specs.Inserting.{insertedAll};
 ghost use Rattle.store.specs.Widening.{widenedByAll};
-ghost use Rattle.store.specs.Stepping.{placedIn, stays, moves, replaced, steppedRecords};
+ghost use Rattle.store.specs.Stepping.{placedIn, livesOn, moves, replaced, movedRecords};
 ghost use Rattle.store.specs.Needs.{ReportAsked, PlaceByAsked, AreTimes, IsStep, TakeAsked, KeptFirst, Taken, PlaceAsked, StepAsked};
-use super::opening::clear;
 use super::sorting::put_all;
 use super::widening::widen_all;
-use super::writing::set_held;
+use super::writing::keep_first;
 use super::writing::write_record;
 use grid::Report;
 use records::RECORD_WORDS;
@@ -45,10 +44,10 @@ impl Step {
     }
 }
 
-// Whether a record stays as it is: its phase lives on.
-fn stays(step: Step, r: Record) -> bool
+// Whether a record's phase lives on: it stays as it is.
+fn lives_on(step: Step, r: Record) -> bool
     requires { ⌜ IsStep step ⌝ }
-    ensures { λ b. ⌜ b ≡ stays (step .now) (step .time) r ⌝ }
+    ensures { λ b. ⌜ b ≡ livesOn (step .now) (step .time) r ⌝ }
 {
     is_live(step.to, phase_of_key(step.from, r.key))
 }
@@ -76,7 +75,7 @@ pub fn place_in(p: usize, r: Report) -> Record
 // many are kept. The count and the words after the kept records stay as they are: `take_dead` sets them.
 fn keep_live(store: &mut [i32], step: Step, dead: &mut [i32]) -> usize
     requires { ⌜ TakeAsked (now store) step (now dead) ⌝ }
-    ensures { λ k. ⌜ KeptFirst (stays (step .now) (step .time)) (now (store .entry)) k (now (store .exit)) ⌝ }
+    ensures { λ k. ⌜ KeptFirst (livesOn (step .now) (step .time)) (now (store .entry)) k (now (store .exit)) ⌝ }
     ensures { λ k. ⌜ Taken (phaseOf (step .time)) (moves (step .now) (step .time)) (recordsOf (now (store .entry))) (heldOf (now (store .entry)) - k) (now (dead .exit)) ⌝ }
 {
     let numbers = grid::curve_numbers();
@@ -85,7 +84,7 @@ fn keep_live(store: &mut [i32], step: Step, dead: &mut [i32]) -> usize
     let mut i = 0;
     while i < n {
         let r = Record::read_from(store, RECORD_WORDS * i + RECORD_WORDS);
-        if stays(step, r) {
+        if lives_on(step, r) {
             write_record(store, RECORD_WORDS * k + RECORD_WORDS, r);
             k += 1;
             i += 1;
@@ -104,15 +103,12 @@ fn keep_live(store: &mut [i32], step: Step, dead: &mut [i32]) -> usize
 // Takes the records that move out of the store, and writes them to `dead`, placed in the phase of the time. Gives back how many.
 fn take_dead(store: &mut [i32], step: Step, dead: &mut [i32]) -> usize
     requires { ⌜ TakeAsked (now store) step (now dead) ⌝ }
-    ensures { λ m. ⌜ now (store .exit) ≡ storeOf (nowOf (now (store .entry))) (passing (stays (step .now) (step .time)) (recordsOf (now (store .entry)))) ⌝ }
+    ensures { λ m. ⌜ now (store .exit) ≡ storeOf (nowOf (now (store .entry))) (passing (livesOn (step .now) (step .time)) (recordsOf (now (store .entry)))) ⌝ }
     ensures { λ m. ⌜ Taken (phaseOf (step .time)) (moves (step .now) (step .time)) (recordsOf (now (store .entry))) m (now (dead .exit)) ⌝ }
 {
     let n = held_of(store);
     let k = keep_live(store, step, dead);
-    let start = RECORD_WORDS * k + RECORD_WORDS;
-    let end = RECORD_WORDS * n + RECORD_WORDS;
-    clear(&mut store[start..end]);
-    set_held(store, k);
+    keep_first(store, k, n);
     n - k
 }
 
@@ -129,10 +125,10 @@ fn place_dead(store: &mut [i32], table: &mut [i16], dead: &[i32], m: usize)
     put_all(store, dead, m);
 }
 
-// The records after a clock step: those that move are placed in the phase of the time, and the row of each is widened. The time itself is set apart.
-pub fn step_records(store: &mut [i32], table: &mut [i16], step: Step)
+// The records that move are placed in the phase of the time, and the row of each is widened. The time itself is set apart.
+pub fn move_records(store: &mut [i32], table: &mut [i16], step: Step)
     requires { ⌜ StepAsked (now store) (now table) step ⌝ }
-    ensures { λ u. ⌜ now (store .exit) ≡ storeOf (nowOf (now (store .entry))) (steppedRecords (step .now) (step .time) (recordsOf (now (store .entry)))) ⌝ }
+    ensures { λ u. ⌜ now (store .exit) ≡ storeOf (nowOf (now (store .entry))) (movedRecords (step .now) (step .time) (recordsOf (now (store .entry)))) ⌝ }
     ensures { λ u. ⌜ now (table .exit) ≡ widenedByAll (now (table .entry)) (replaced (phaseOf (step .time)) (moves (step .now) (step .time)) (recordsOf (now (store .entry)))) ⌝ }
 {
     let mut dead = [0i32; records::FLOAT_WORDS];

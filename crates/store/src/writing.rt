@@ -1,4 +1,4 @@
-// Words of a store written: a record, the count of floats held, and the time.
+// Words of a store written: a record, the count of floats held, the first records alone kept, and the time.
 ghost use mathlib.Core.Path.{_≡_};
 ghost use mathlib.Core.List.{_++_};
 ghost use Prim.Native.Nat.{_≤_, _+_};
@@ -6,7 +6,9 @@ ghost use lib.IntN.{pos};
 ghost use lib.ListN.{length, take, drop, set};
 ghost use Rattle.records.specs.Records.{recordWords, recordsOf, wordsOf, storeOf};
 ghost use Rattle.records.specs.Soundness.{IsStore};
-ghost use Rattle.store.specs.Needs.{HeldAsked};
+ghost use Rattle.store.specs.Needs.{HeldAsked, KeepAsked, firstKept};
+use super::opening::clear;
+use records::RECORD_WORDS;
 use records::Record;
 
 // Writes a record over the seven words at k.
@@ -38,6 +40,17 @@ pub fn set_held(store: &mut [i32], n: usize)
 {
     let w = n as i32;
     store[1] = w;
+}
+
+// Keeps the first k of n records: the words of the others are zeroed, and the count is set.
+pub fn keep_first(store: &mut [i32], k: usize, n: usize)
+    requires { ⌜ KeepAsked (now store) k n ⌝ }
+    ensures { λ u. ⌜ now (store .exit) ≡ firstKept k n (now (store .entry)) ⌝ }
+{
+    let start = RECORD_WORDS * k + RECORD_WORDS;
+    let end = RECORD_WORDS * n + RECORD_WORDS;
+    clear(&mut store[start..end]);
+    set_held(store, k);
 }
 
 // Sets the time, in record 0.

@@ -1,2 +1,3 @@
+pub mod WordsMovedLaws
 pub mod WordsSteppedLaws
 pub mod WordsPlacedLaws

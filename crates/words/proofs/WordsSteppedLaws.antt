@@ -1,142 +1,96 @@
--- The clock step over a sound index: in the same phase no record and no row changes; in a later one the words stay those of a store.
+-- A whole clock step. The words of the floats that stay are sound where all were, whichever test says who stays; then the clock moves on.
 -- Assumes nothing.
-use mathlib.Core.Path.{_≡_, refl, sym, ap, ap₂, _∙_}
-use mathlib.Core.Bool.{true, not}
-use mathlib.Core.List.{List, [], _∷_, map, List·Memᴰ, List·Memᴰ·head, List·Memᴰ·tail}
-use Prim.Native.Nat.{ℕ, _≤_}
+use mathlib.Core.Path.{_≡_, ap, ap₂, _∙_}
+use mathlib.Core.Bool.{Bool, true}
+use mathlib.Core.List.{List}
 use native.Mathlib.Omega.{arith}
 use lib.IntN.{ℤ}
-use lib.ListN.{length}
-use borrow.Author.Tests.{le-ltb}
-use Rattle.ints.proofs.Lists.{passing-all, passing-none}
-use Rattle.grid.specs.Units.{capacity}
-use Rattle.grid.specs.Reports.{isTime}
-use Rattle.rows.specs.Phases.{phaseOf, isLive, livePhases}
-use Rattle.rows.specs.Table.{tableWords, withLaterEmpty, withNewlyLiveEmpty}
-use Rattle.rows.proofs.TableLaws.{length-newly-live-empty}
-use Rattle.rows.proofs.PhasesLaws.{live-range, listed-live, phases-grow}
-use Rattle.records.specs.Records.{recordsOf, storeOf}
-use Rattle.records.specs.Order.{isSorted, phaseOfKey}
-use Rattle.records.specs.Soundness.{allRanged, IsStore}
-use Rattle.store.specs.Inserting.{insertedAll}
-use Rattle.store.specs.Widening.{widenedByAll}
-use Rattle.store.specs.Stepping.{placedIn, stays, moves, replaced, steppedRecords}
-use Rattle.store.specs.Needs.{IsStep}
-use Rattle.store.specs.declared.stepping.Step.{Step}
+use lib.Signed.{leZ}
+use Rattle.ints.proofs.Lists.{passing-few}
+use Rattle.grid.specs.Reports.{staysAt}
+use Rattle.grid.specs.declared.Report.{Report}
+use Rattle.records.specs.Soundness.{isRanged, isSoundRecord, inOwnRow}
+use Rattle.records.specs.Records.{storeOf}
+use Rattle.records.specs.Words.{Words, words, timeIn, recordsIn, areSound}
 use Rattle.records.specs.declared.Record.{Record}
 use Rattle.records.proofs.RecordsLaws.{now-of-store, records-of-store, store-of}
-use Rattle.store.proofs.SteppingLaws.{stepped-few, stepped-ranged, stepped-sorted}
-use Rattle.store.proofs.WideningLaws.{with-speeds-length}
 use Rattle.records.proofs.SoundnessLaws as Sound
-use Rattle.records.proofs.OrderKeysLaws.{right-placed}
-use Rattle.records.specs.Words.{Words, words, timeIn, recordsIn}
-use Rattle.words.specs.Words.{tableStepped, stepped}
-use Rattle.words.specs.Needs.{CanStep, CanMove, Moved, CanChange}
+use Rattle.store.specs.Stepping.{movedRecords}
+use Rattle.store.proofs.SteppingLaws.{passing-sorted, passing-distinct}
+use Rattle.retiring.specs.Retiring.{kept, steppedRecords}
+use Rattle.retiring.proofs.RetiringLaws.{kept-every}
+use Rattle.words.specs.Words.{keeping, stepped}
+use Rattle.words.specs.Needs.{CanStep, CanChange}
+use Rattle.words.proofs.WordsMovedLaws.{moved-records, moved-can-change}
 
-nothing-new : (c : ℕ) (table : List ℤ) (ps : List ℕ) → ((p : ℕ) → List·Memᴰ p ps → p ≤ c) → withLaterEmpty table c ps ≡ table
-unfolding withLaterEmpty
-nothing-new c table [] h = refl
-nothing-new c table (p ∷ ps) h =
-    rw (le-ltb c p (h p (List·Memᴰ·head refl))) (nothing-new c table ps (λ x m. h x (List·Memᴰ·tail m)))
+-- ---- the floats that stay
+
+module _ (stays : Report → Bool) (w : Words) where
+  abbrev left : List Record
+  left = kept stays (recordsIn w)
+
+  abbrev test : Record → Bool
+  test r = stays (r .report)
+
+  pub keeping-is : (s′ : List ℤ) → s′ ≡ storeOf (timeIn w) left → words s′ (w .table) ≡ keeping stays w
+  unfolding keeping
+  keeping-is s′ e = ap (λ (s : List ℤ). words s (w .table)) e
+
+  pub keeping-time : timeIn (keeping stays w) ≡ timeIn w
+  unfolding keeping
+  keeping-time = now-of-store (timeIn w) left
+
+  pub keeping-records : recordsIn (keeping stays w) ≡ left
+  unfolding keeping
+  keeping-records = records-of-store (timeIn w) left
+
+  pub keeping-can-change : CanChange w → CanChange (keeping stays w)
+  unfolding keeping
+  keeping-can-change can =
+      let s = can .is-store in
+      let few = s .few in
+      record {
+        is-store = store-of (timeIn w) left (omega (arith, passing-few test (recordsIn w)))
+            (kept-every stays isRanged (recordsIn w) (s .ranged))
+            (passing-sorted test (recordsIn w) (s .sorted));
+        whole-table = can .whole-table;
+      }
+
+  pub keeping-sound : areSound w ≡ true → areSound (keeping stays w) ≡ true
+  unfolding keeping
+  keeping-sound sound =
+      let parts = Sound.sound-parts (w .store) (w .table) sound in
+      let s = parts .store in
+      let few = Sound.is-store (w .store) s .few in
+      Sound.parts-sound (timeIn w) left (w .table)
+      (omega (arith, passing-few test (recordsIn w)))
+      (s .time)
+      (kept-every stays (isSoundRecord (timeIn w)) (recordsIn w) (s .sound))
+      (passing-sorted test (recordsIn w) (s .sorted))
+      (passing-distinct test (recordsIn w) (s .distinct))
+      (parts .table-long)
+      (parts .valid)
+      (kept-every stays (inOwnRow (w .table)) (recordsIn w) (parts .speeds))
+
+-- ---- the step
 
 module _ (w : Words) (time : ℤ) (can : CanStep w time) where
-  is-sound : Sound.Sound (w .store) (w .table)
-  is-sound = Sound.sound-parts (w .store) (w .table) (can .sound)
+  abbrev stays : Report → Bool
+  stays = staysAt time
 
-  pub is-store : IsStore (w .store)
-  is-store = Sound.is-store (w .store) (is-sound .store)
+  pub left-can-step : CanStep (keeping stays w) time
+  left-can-step = record {
+    sound = keeping-sound stays w (can .sound);
+    is-time = can .is-time;
+    not-past = ap (λ (now : ℤ). leZ now time) (keeping-time stays w) ∙ can .not-past;
+  }
 
-  pub time-now : isTime (timeIn w) ≡ true
-  time-now = is-sound .store .time
-
-  abbrev now : ℤ
-  now = timeIn w
-
-  abbrev from : ℕ
-  from = phaseOf now
-
-  abbrev to : ℕ
-  to = phaseOf time
-
-  abbrev records : List Record
-  records = recordsIn w
-
-  -- ---- in the same phase
-
-  module _ (same : to ≡ from) where
-    all-stay : (r : Record) → List·Memᴰ r records → stays now time r ≡ true
-    all-stay r m =
-        ap (λ (p : ℕ). isLive p (phaseOfKey from (r .key))) same
-        ∙ right-placed now r (Sound.all-sound-each now records (is-sound .store .sound) r m .key-right) .live
-
-    none-moves : replaced to (moves now time) records ≡ []
-    none-moves =
-        ap (map (λ r. placedIn to (r .report))) (passing-none (moves now time) records (λ r m. ap not (all-stay r m)))
-
-    records-same : steppedRecords now time records ≡ records
-    unfolding steppedRecords insertedAll
-    records-same = ap₂ insertedAll none-moves (passing-all (stays now time) records all-stay)
-
-    table-same : tableStepped now time records (w .table) ≡ w .table
-    unfolding tableStepped widenedByAll
-    table-same =
-        ap₂ (λ (p : ℕ) (rs : List Record). widenedByAll (withNewlyLiveEmpty (w .table) from p) rs) same none-moves
-        ∙ nothing-new from (w .table) (livePhases from) (λ p m. live-range from p (listed-live from p m) .0)
-
-  -- in the same phase only the time changes
-  pub same-step : to ≤ from → (s′ : List ℤ) → s′ ≡ storeOf time records → words s′ (w .table) ≡ stepped time w
-  unfolding stepped
-  same-step h s′ e =
-      let same : to ≡ from = omega (arith, phases-grow now time (can .not-past)) in
-      ap₂ words (e ∙ ap (storeOf time) (sym (records-same same))) (sym (table-same same))
-
-  -- ---- in a later phase
-
-  few : length (steppedRecords now time records) ≤ capacity
-  few = let e = stepped-few now time records in let f = is-store .few in omega arith
-
-  ranged : allRanged (steppedRecords now time records) ≡ true
-  ranged = stepped-ranged now time records (is-store .ranged)
-
-  sorted : isSorted (steppedRecords now time records) ≡ true
-  sorted = stepped-sorted now time records (is-store .sorted) (is-sound .store .distinct)
-
-  module _ (step : Step) (from-now : step .now ≡ now) (to-time : step .time ≡ time) where
-    pub can-move : IsStep step → CanMove w step
-    can-move i = record { is-store = is-store; whole-table = is-sound .table-long; is-step = i }
-
-    -- the records are those of a store, and the time is set last
-    module _ (s′ table′ : List ℤ) (m : Moved (w .store) (w .table) step s′ table′) where
-      store-then : s′ ≡ storeOf now (steppedRecords now time records)
-      store-then = m .store-is ∙ ap₂ (λ (n t : ℤ). storeOf now (steppedRecords n t records)) from-now to-time
-
-      pub moved-store : IsStore s′
-      moved-store = rw store-then (store-of now (steppedRecords now time records) few ranged sorted)
-
-      pub later-step : (s″ : List ℤ) → s″ ≡ storeOf time (recordsOf s′) → words s″ table′ ≡ stepped time w
-      unfolding stepped
-      later-step s″ e =
-          ap₂ words
-          (e ∙ ap (storeOf time) (ap recordsOf store-then ∙ records-of-store now (steppedRecords now time records)))
-          (m .table-is ∙ ap₂ (λ (n t : ℤ). tableStepped n t records (w .table)) from-now to-time)
-
-  -- ---- what is read from the words after the step
-
-  pub stepped-time : timeIn (stepped time w) ≡ time
-  unfolding stepped
-  stepped-time = now-of-store time (steppedRecords now time records)
-
-  pub stepped-records : recordsIn (stepped time w) ≡ steppedRecords now time records
-  unfolding stepped
-  stepped-records = records-of-store time (steppedRecords now time records)
-
-  table-long : length (tableStepped now time records (w .table)) ≡ tableWords
-  unfolding tableStepped
-  table-long =
-      with-speeds-length (withNewlyLiveEmpty (w .table) from to) (replaced to (moves now time) records)
-      ∙ length-newly-live-empty (w .table) from to (is-sound .table-long)
+  pub stepped-records : recordsIn (stepped time w) ≡ steppedRecords (timeIn w) time (recordsIn w)
+  unfolding stepped steppedRecords
+  stepped-records =
+      moved-records (keeping stays w) time left-can-step
+      ∙ ap₂ (λ (now : ℤ) (rs : List Record). movedRecords now time rs) (keeping-time stays w) (keeping-records stays w)
 
   pub stepped-can-change : CanChange (stepped time w)
   unfolding stepped
-  stepped-can-change =
-      record { is-store = store-of time (steppedRecords now time records) few ranged sorted; whole-table = table-long }
+  stepped-can-change = moved-can-change (keeping stays w) time left-can-step

@@ -1,8 +1,10 @@
 -- What an open, a clock step, a report placed and a float taken out make of the lent words: document 01, "Store and table" and "Phases and
--- speed rows".
+-- speed rows", and document 02, A7, for floats that retire.
 -- Assumes nothing.
+use mathlib.Core.Bool.{Bool}
 use mathlib.Core.List.{List, []}
 use lib.IntN.{ℤ}
+use Rattle.grid.specs.Reports.{staysAt}
 use Rattle.grid.specs.declared.Report.{Report}
 use Rattle.rows.specs.Phases.{phaseOf}
 use Rattle.rows.specs.Table.{withSlotEmpty, withNewlyLiveEmpty}
@@ -12,7 +14,8 @@ use Rattle.records.specs.declared.Record.{Record}
 use Rattle.store.specs.Inserting.{inserted}
 use Rattle.store.specs.Removing.{removed}
 use Rattle.store.specs.Widening.{widenedBy, widenedByAll}
-use Rattle.store.specs.Stepping.{placedIn, moves, replaced, steppedRecords}
+use Rattle.store.specs.Stepping.{placedIn, moves, replaced, movedRecords}
+use Rattle.retiring.specs.Retiring.{kept}
 
 -- that time, no float held, every row empty
 unfoldable pub opened : ℤ → Words → Words
@@ -23,16 +26,25 @@ opened time w = record {
 
 -- ---- the clock step
 
+-- the floats whose report passes a test stay held. The table is as it was: the rows of a float that goes stay till their phase dies
+unfoldable pub keeping : (Report → Bool) → Words → Words
+keeping stays w = record { store = storeOf (timeIn w) (kept stays (recordsIn w)); table = w .table }
+
 -- the rows of every newly live phase emptied; then the row of each re-placed float widened
-unfoldable pub tableStepped : ℤ → ℤ → List Record → List ℤ → List ℤ
-tableStepped now time rs table =
+unfoldable pub tableMoved : ℤ → ℤ → List Record → List ℤ → List ℤ
+tableMoved now time rs table =
     widenedByAll (withNewlyLiveEmpty table (phaseOf now) (phaseOf time)) (replaced (phaseOf time) (moves now time) rs)
 
-unfoldable pub stepped : ℤ → Words → Words
-stepped time w = record {
-  store = storeOf time (steppedRecords (timeIn w) time (recordsIn w));
-  table = tableStepped (timeIn w) time (recordsIn w) (w .table);
+-- the clock moved on, with the floats that are held
+unfoldable pub movedOn : ℤ → Words → Words
+movedOn time w = record {
+  store = storeOf time (movedRecords (timeIn w) time (recordsIn w));
+  table = tableMoved (timeIn w) time (recordsIn w) (w .table);
 }
+
+-- first every silent float retires, then the others are re-placed
+unfoldable pub stepped : ℤ → Words → Words
+stepped time w = movedOn time (keeping (staysAt time) w)
 
 -- ---- what a change does after it
 

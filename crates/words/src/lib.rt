@@ -2,8 +2,8 @@
 // words is in specs/Needs.antt, what it makes of them in specs/Words.antt.
 ghost use mathlib.Core.Path.{_≡_};
 ghost use Rattle.records.specs.Words.{words};
-ghost use Rattle.words.specs.Words.{opened, stepped, placed, takenOut};
-ghost use Rattle.words.specs.Needs.{RightLengths, CanStep, CanMove, Moved, CanChange, CanPlace, CanReplace};
+ghost use Rattle.words.specs.Words.{opened, movedOn, stepped, placed, takenOut};
+ghost use Rattle.words.specs.Needs.{RightLengths, CanStep, CanRetire, CanMove, Moved, CanChange, CanPlace, CanReplace};
 use grid::Report;
 use records::order::phase_at;
 use store::stepping::Step;
@@ -17,19 +17,19 @@ pub fn open(store: &mut [i32], table: &mut [i16], t: i32)
     rows::empty_table(table);
 }
 
-// The clock step to a time of a later phase: newly live phases emptied, then the floats of dead phases placed in the current one.
+// The clock moves on to a time of a later phase: newly live phases emptied, then the floats of dead phases placed in the current one.
 fn step_phase(store: &mut [i32], table: &mut [i16], s: Step)
     requires { ⌜ CanMove (words (now store) (now table)) s ⌝ }
     ensures { λ u. ⌜ Moved (now (store .entry)) (now (table .entry)) s (now (store .exit)) (now (table .exit)) ⌝ }
 {
     rows::empty_newly_live(table, s.from, s.to);
-    store::stepping::step_records(store, table, s);
+    store::stepping::move_records(store, table, s);
 }
 
-// The clock step to time t. In the same phase only the time changes.
-pub fn step(store: &mut [i32], table: &mut [i16], t: i32)
+// The clock moves on to time t with the floats that are held. In the same phase only the time changes.
+fn move_on(store: &mut [i32], table: &mut [i16], t: i32)
     requires { ⌜ CanStep (words (now store) (now table)) t ⌝ }
-    ensures { λ u. ⌜ words (now (store .exit)) (now (table .exit)) ≡ stepped t (words (now (store .entry)) (now (table .entry))) ⌝ }
+    ensures { λ u. ⌜ words (now (store .exit)) (now (table .exit)) ≡ movedOn t (words (now (store .entry)) (now (table .entry))) ⌝ }
 {
     let s = Step::between(records::now_of(store), t as i64);
     if s.to <= s.from {
@@ -38,6 +38,15 @@ pub fn step(store: &mut [i32], table: &mut [i16], t: i32)
     }
     step_phase(store, table, s);
     store::writing::set_now(store, t);
+}
+
+// The clock step to time t: silent floats retire, then the clock moves on with the others. `left` is how many those are.
+pub fn step(store: &mut [i32], table: &mut [i16], t: i32, left: usize)
+    requires { ⌜ CanRetire (words (now store) (now table)) t left ⌝ }
+    ensures { λ u. ⌜ words (now (store .exit)) (now (table .exit)) ≡ stepped t (words (now (store .entry)) (now (table .entry))) ⌝ }
+{
+    retiring::retire(store, t, left);
+    move_on(store, table, t);
 }
 
 // A report placed in the phase of its time: its record put in, its row widened.

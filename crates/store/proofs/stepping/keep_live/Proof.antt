@@ -8,14 +8,15 @@ use Prim.Native.Nat.{ℕ, _-_}
 use Rattle.rows.specs.Phases.{phaseOf}
 use Rattle.records.proofs.SoundnessRangeLaws.{ranged-parts}
 use Rattle.records.proofs.PlacesLaws.{store-room}
-use Rattle.store.specs.Stepping.{placedIn, stays, moves}
-use Rattle.store.proofs.SteppingWordsLaws.{to-small, Pass, pass-start, pass-ranged, pass-live, pass-dead, pass-end}
+use Rattle.store.specs.Stepping.{placedIn, livesOn, moves}
+use Rattle.store.proofs.WritingKeptLaws.{now-ranged}
+use Rattle.store.proofs.SteppingWordsLaws.{to-small, Pass, pass-start, pass-live, pass-dead, pass-end}
 use Rattle.store.proofs.stepping.keep_live.Statement.{statement}
 use Rattle.store.proofs.stepping.keep_live.Tie as tie
 
 abbrev Inv-loop : tie.InvT-loop
 Inv-loop store₀ step dead₀ numbers n k₀ i₀ store dead k i =
-    Pass store₀ (phaseOf (step .time)) (stays (step .now) (step .time)) (moves (step .now) (step .time)) n store dead k i
+    Pass store₀ (phaseOf (step .time)) (livesOn (step .now) (step .time)) (moves (step .now) (step .time)) n store dead k i
 
 abbrev μ-loop : tie.MeasureT-loop
 μ-loop store₀ step dead₀ numbers n k₀ i₀ store dead k i = n - i
@@ -24,7 +25,7 @@ abbrev μ-loop : tie.MeasureT-loop
 abbrev start : tie.At-loop Inv-loop μ-loop → tie.Start Inv-loop μ-loop
 start c = c .before .before .before .before
 
-abbrev looping : tie.After-stays Inv-loop μ-loop → tie.In-loop Inv-loop μ-loop
+abbrev looping : tie.After-lives-on Inv-loop μ-loop → tie.In-loop Inv-loop μ-loop
 looping c = c .before .before .before
 
 curve-numbers-requires : tie.Need-curve-numbers-requires Inv-loop μ-loop
@@ -39,28 +40,28 @@ loop-holds c =
     pass-start _ _ _ _ _ _ (a .pre .store) (c .held-of .ensures) (a .pre .room)
 
 mul-read-from : tie.Need-mul-read-from Inv-loop μ-loop
-mul-read-from c = omega (arith, c .before .before .loop .inv)
+mul-read-from c = omega (arith, c .before .before .loop .inv .keeping)
 
 add-read-from : tie.Need-add-read-from Inv-loop μ-loop
-add-read-from c = omega (arith, c .before .before .loop .inv)
+add-read-from c = omega (arith, c .before .before .loop .inv .keeping)
 
 read-from-requires : tie.Need-read-from-requires Inv-loop μ-loop
-read-from-requires c κs = omega (arith, c .before .before .loop .inv)
+read-from-requires c κs = omega (arith, c .before .before .loop .inv .keeping)
 
-stays-requires : tie.Need-stays-requires Inv-loop μ-loop
-stays-requires c κs = start (c .before .before .before) .pre .is-step
+lives-on-requires : tie.Need-lives-on-requires Inv-loop μ-loop
+lives-on-requires c κs = start (c .before .before .before) .pre .is-step
 
 mul-write-record : tie.Need-mul-write-record Inv-loop μ-loop
-mul-write-record c = omega (arith, looping (c .before .before) .before .loop .inv)
+mul-write-record c = omega (arith, looping (c .before .before) .before .loop .inv .keeping)
 
 add-write-record : tie.Need-add-write-record Inv-loop μ-loop
-add-write-record c = omega (arith, looping (c .before .before) .before .loop .inv)
+add-write-record c = omega (arith, looping (c .before .before) .before .loop .inv .keeping)
 
 write-record-requires : tie.Need-write-record-requires Inv-loop μ-loop
-write-record-requires c κs = omega (arith, looping (c .before .before) .before .loop .inv)
+write-record-requires c κs = omega (arith, looping (c .before .before) .before .loop .inv .keeping)
 
 add-k : tie.Need-add-k Inv-loop μ-loop
-add-k c = omega (arith, looping (c .before .before .before .before) .before .loop .inv)
+add-k c = omega (arith, looping (c .before .before .before .before) .before .loop .inv .keeping)
 
 add-i : tie.Need-add-i Inv-loop μ-loop
 add-i c = search needs
@@ -74,21 +75,21 @@ loop-again c =
     let then = w .before .before in
     let s = then .before in
     let l = looping s in
-    let stay = sym (s .stays .ensures) ∙ then .if1 .taken in
+    let stay = sym (s .lives-on .ensures) ∙ then .if1 .taken in
     pass-live _ _ _ _ _ _ _ _ _ (l .before .loop .inv) (l .loop-test .taken) _ (s .before .read-from .ensures) stay (ap not stay) _ (w .write-record .ensures)
 
 sub-write-record : tie.Need-sub-write-record Inv-loop μ-loop
-sub-write-record c = omega (arith, looping (c .before .before) .before .loop .inv)
+sub-write-record c = omega (arith, looping (c .before .before) .before .loop .inv .keeping)
 
 mul-write-record-2 : tie.Need-mul-write-record-2 Inv-loop μ-loop
-mul-write-record-2 c = omega (arith, looping (c .before .before) .before .loop .inv)
+mul-write-record-2 c = omega (arith, looping (c .before .before) .before .loop .inv .keeping)
 
 place-by-requires : tie.Need-place-by-requires Inv-loop μ-loop
 place-by-requires c κs =
     let s = c .before .before .before in
     let l = looping s in
     let a = start (l .before) in
-    let is-ranged = pass-ranged _ _ _ _ _ _ _ _ _ (l .before .loop .inv) (l .loop-test .taken) _ (s .before .read-from .ensures) in
+    let is-ranged = now-ranged _ _ _ _ _ _ (l .before .loop .inv .keeping) (l .loop-test .taken) _ (s .before .read-from .ensures) in
     let g = ranged-parts (s .before .read-from .result) is-ranged in
     record {
       curve = l .before .before .before .before .curve-numbers .ensures;
@@ -98,7 +99,7 @@ place-by-requires c κs =
 write-record-requires-2 : tie.Need-write-record-requires-2 Inv-loop μ-loop
 write-record-requires-2 c κs =
     let l = looping (c .before .before .before .before) in
-    omega (arith, l .before .loop .inv, l .loop-test .taken)
+    omega (arith, l .before .loop .inv .keeping, l .loop-test .taken)
 
 add-i-2 : tie.Need-add-i-2 Inv-loop μ-loop
 add-i-2 c = search needs
@@ -114,12 +115,12 @@ loop-again-2 c =
     let s = else .before in
     let l = looping s in
     let a = start (l .before) in
-    let leaves = sym (s .stays .ensures) ∙ else .if1 .left in
+    let leaves = sym (s .lives-on .ensures) ∙ else .if1 .left in
     let placed = p .place-by .ensures ∙ ap (λ (q : ℕ). placedIn q (s .before .read-from .result .report)) (a .pre .is-step .to-is) in
     pass-dead _ _ _ _ _ _ _ _ _ (l .before .loop .inv) (l .loop-test .taken) _ (s .before .read-from .ensures) leaves (ap not leaves) _ placed _ (w .write-record2 .ensures)
 
 same-length : tie.Need-same-length Inv-loop μ-loop
-same-length c = omega (arith, c .before .loop .inv .long, store-room _ (start (c .before) .pre .store))
+same-length c = omega (arith, c .before .loop .inv .keeping .long, store-room _ (start (c .before) .pre .store))
 
 same-length-2 : tie.Need-same-length-2 Inv-loop μ-loop
 same-length-2 c = omega (arith, c .before .loop .inv .long-dead, start (c .before) .pre .room)
@@ -139,7 +140,7 @@ keep-live-spec =
     mul-read-from
     add-read-from
     read-from-requires
-    stays-requires
+    lives-on-requires
     mul-write-record
     add-write-record
     write-record-requires

@@ -1,4 +1,4 @@
--- `store::stepping::stays` meets its contract: the phase of the key, tested.
+-- `store::stepping::lives_on` meets its contract: the phase of the key, tested.
 -- Assumes nothing.
 use borrow.Author.Needs.{needs}
 use native.Mathlib.Omega.{arith}
@@ -8,9 +8,9 @@ use Rattle.ints.proofs.Machine.{back, tested₁}
 use Rattle.rows.specs.Phases.{isLive}
 use Rattle.records.specs.Order.{phaseOfKey}
 use Rattle.records.proofs.OrderKeysLaws.{phase-of-key-small}
-use Rattle.store.proofs.SteppingWordsLaws.{from-small, stays-is}
-use Rattle.store.proofs.stepping.stays.Statement.{statement}
-use Rattle.store.proofs.stepping.stays.Tie as tie
+use Rattle.store.proofs.SteppingWordsLaws.{from-small, lives-on-is}
+use Rattle.store.proofs.stepping.lives_on.Statement.{statement}
+use Rattle.store.proofs.stepping.lives_on.Tie as tie
 
 phase-of-key-requires : tie.Need-phase-of-key-requires
 phase-of-key-requires c κs = search needs
@@ -25,7 +25,7 @@ returns c =
     let a = c .before .before .before in
     c .is-live .ensures
     ∙ ap (isLive (a .args .step .to)) (tested₁ w32 (phaseOfKey (a .args .step .from)) (c .before .phase-of-key .result) (a .args .r .key) (c .before .phase-of-key .ensures) (search needs))
-    ∙ stays-is (a .args .step) (a .pre) (a .args .r)
+    ∙ lives-on-is (a .args .step) (a .pre) (a .args .r)
 
-pub stays-spec : {M : Type 1} → statement M
-stays-spec = tie.close (tie.spec phase-of-key-requires is-live-requires returns)
+pub lives-on-spec : {M : Type 1} → statement M
+lives-on-spec = tie.close (tie.spec phase-of-key-requires is-live-requires returns)

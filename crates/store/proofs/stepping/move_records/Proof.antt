@@ -1,9 +1,9 @@
--- `store::stepping::step_records` meets its contract: the records that do not live on are taken out, and put in again.
+-- `store::stepping::move_records` meets its contract: the records that do not live on are taken out, and put in again.
 -- Assumes nothing.
 use borrow.Author.Needs.{needs}
 use Rattle.store.proofs.SteppingWordsLaws.{step-asks, step-stored, step-widened}
-use Rattle.store.proofs.stepping.step_records.Statement.{statement}
-use Rattle.store.proofs.stepping.step_records.Tie as tie
+use Rattle.store.proofs.stepping.move_records.Statement.{statement}
+use Rattle.store.proofs.stepping.move_records.Tie as tie
 
 slice-aggregate-take-dead : tie.Need-slice-aggregate-take-dead
 slice-aggregate-take-dead c = search needs
@@ -26,8 +26,8 @@ same-length-2 c = search needs
 returns : tie.Need-returns
 returns c = (search step-stored, search step-widened)
 
-pub step-records-spec : {M : Type 1} → statement M
-step-records-spec =
+pub move-records-spec : {M : Type 1} → statement M
+move-records-spec =
     tie.close
     (tie.spec
     slice-aggregate-take-dead

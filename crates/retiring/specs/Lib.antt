@@ -1,0 +1,2 @@
+pub mod Retiring
+pub mod Needs
