@@ -15,6 +15,7 @@ use Rattle.grid.specs.declared.Report.{Report}
 use Rattle.rows.specs.Phases.{phaseOf, lastPhase}
 use Rattle.rows.specs.Table.{tableWords}
 use Rattle.records.specs.Records.{recordWords, heldOf, readRecords, recordsOf, wordsOfAll, floatWords}
+use Rattle.records.specs.Order.{isSorted}
 use Rattle.records.specs.Soundness.{isRanged, allRanged, IsStore}
 use Rattle.store.specs.Stepping.{replaced}
 use Rattle.store.specs.declared.stepping.Step.{Step}
@@ -41,11 +42,19 @@ firstKept k n s =
     let end = recordWords * n + recordWords in
     set (take start s ++ (replicate (end - start) (pos 0) ++ drop end s)) 1 (pos k)
 
+-- ---- finding.rt: the place of a record
+
+-- a store whose records are sorted
+pub record PlaceOfAsked (s : List ℤ) : Type 0 where
+  pub store : HasWords s
+  pub sorted : isSorted (recordsOf s) ≡ true
+
 -- ---- inserting.rt: a record put in
 
--- a store with room for one more record; the public function also asks that the store is sorted, and store and record in range
+-- such a store with room for one more record; the public function also asks that store and record are in range
 pub record PutAsked (s : List ℤ) : Type 0 where
   pub store : HasWords s
+  pub sorted : isSorted (recordsOf s) ≡ true
   pub room : length (recordsOf s) < capacity
 
 pub record InsertAsked (s : List ℤ) (r : Record) : Type 0 where

@@ -4,6 +4,7 @@ ghost use Prim.Native.Nat.{_≤_, _+_, _*_};
 ghost use lib.ListN.{length};
 ghost use Rattle.records.specs.Records.{recordWords, heldOf, recordsOf};
 ghost use Rattle.store.specs.Finding.{placeOf, indexOf};
+ghost use Rattle.store.specs.Needs.{PlaceOfAsked};
 use records::RECORD_WORDS;
 use records::Record;
 use records::held_of;
@@ -27,19 +28,21 @@ pub fn index_of(store: &[i32], id: i32) -> usize
     i
 }
 
-// How many records stand before the place of r.
+// How many records stand before the place of r: binary search.
 pub fn place_of(store: &[i32], r: Record) -> usize
-    requires { ⌜ recordWords * heldOf (now store) + recordWords ≤ length (now store) ⌝ }
+    requires { ⌜ PlaceOfAsked (now store) ⌝ }
     ensures { λ p. ⌜ p ≡ placeOf r (recordsOf (now (store .entry))) ⌝ }
 {
-    let n = held_of(store);
-    let mut i = 0;
-    while i < n {
-        let a = Record::read_from(store, RECORD_WORDS * i + RECORD_WORDS);
+    let mut low = 0;
+    let mut high = held_of(store);
+    while low < high {
+        let mid = low + (high - low) / 2;
+        let a = Record::read_from(store, RECORD_WORDS * mid + RECORD_WORDS);
         if precedes(r, a) {
-            return i;
+            high = mid;
+        } else {
+            low = mid + 1;
         }
-        i += 1;
     }
-    i
+    low
 }

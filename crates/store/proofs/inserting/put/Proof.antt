@@ -15,7 +15,7 @@ held-of-requires : tie.Need-held-of-requires
 held-of-requires c κs = omega (arith, words-room _ (c .before .pre .store))
 
 place-of-requires : tie.Need-place-of-requires
-place-of-requires c κs = omega (arith, words-room _ (c .before .before .before .pre .store))
+place-of-requires c κs = let a = c .before .before .before in record { store = a .pre .store; sorted = a .pre .sorted }
 
 mul-start : tie.Need-mul-start
 mul-start c = omega (arith, words-room _ (c .before .before .before .before .pre .store), c .before .before .held-of .ensures, within _ _ _ (c .place-of .ensures))
