@@ -23,6 +23,7 @@ use Rattle.records.specs.Places.{firstOf}
 use Rattle.records.proofs.RecordsLaws.{held-records}
 use Rattle.records.proofs.OrderLaws.{first-alone, rest-distinct}
 use Rattle.store.specs.Finding.{indexOf}
+use Rattle.store.proofs.FindingLaws.{first-same}
 use Rattle.store.proofs.WritingKeptLaws.{drop-record}
 use Rattle.retiring.specs.Retiring.{kept}
 
@@ -124,10 +125,6 @@ module _ (stays : Report → Bool) (id : ℤ) where
   pub none-has : (rs : List Record) → length rs ≤ indexOf id rs → false ≡ hasId id (kept stays rs)
   none-has rs h = sym (passing-some is (λ r. stays (r .report)) rs (none-found rs h))
 
-  abbrev firstOr : Record → List Record → Record
-  firstOr r [] = r
-  firstOr r (a ∷ rs) = a
-
   -- the first that has it is the only one
   pub one-has : (r : Record) (rs more : List Record) → drop (indexOf id rs) rs ≡ r ∷ more → idsDistinct rs ≡ true → stays (r .report) ≡ hasId id (kept stays rs)
   unfolding passing some firstOf
@@ -147,5 +144,5 @@ module _ (stays : Report → Bool) (id : ℤ) where
 
       go : (t : Bool) → is a ≡ t → drop (cond t 0 (suc (indexOf id rs))) (a ∷ rs) ≡ r ∷ more → (drop (indexOf id rs) rs ≡ r ∷ more → stays (r .report) ≡ hasId id ks)
           → stays (r .report) ≡ hasId id (cond (stays (a .report)) (a ∷ ks) ks)
-      go true e q f = ap (λ (x : Record). stays (x .report)) (sym (ap (firstOr a) q)) ∙ here (stays (a .report)) e
+      go true e q f = ap (λ (x : Record). stays (x .report)) (sym (first-same a r rs more q)) ∙ here (stays (a .report)) e
       go false e q f = f q ∙ later (stays (a .report)) e

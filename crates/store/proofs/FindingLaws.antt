@@ -7,7 +7,7 @@ use Prim.Native.Nat.{ℕ, zero, suc, _+_, _-_, _*_, _/_, _≤_, _<_, _^_}
 use native.Mathlib.Omega.{arith}
 use lib.IntN.{ℤ}
 use lib.Signed.{mag}
-use lib.ListN.{length, drop}
+use lib.ListN.{length, getD, drop}
 use lib.Seq.{drop-nil, drop-drop}
 use mir.Syntax.{w32}
 use mir.Val.{hbits}
@@ -69,16 +69,16 @@ module _ (f : Record → Bool) (s : List ℤ) (n i : ℕ) (e : firstOf f (record
 abbrev pub IsAt : ℕ → Record → List Record → Type 0
 IsAt m a rs = (more : List Record) × (drop m rs ≡ a ∷ more)
 
-abbrev firstOr : Record → List Record → Record
-firstOr a [] = a
-firstOr a (b ∷ rs) = b
+-- of two lists that are the same the first records are
+pub first-same : (a b : Record) (rs more : List Record) → a ∷ rs ≡ b ∷ more → a ≡ b
+first-same a b rs more e = ap (λ (l : List Record). getD l 0 a) e
 
 none-at : (m : ℕ) (a : Record) → IsAt m a [] → ⊥
 none-at m a at = let k = ap length (sym (drop-nil {A = Record} m) ∙ at .1) in omega arith
 
 at-member : (m : ℕ) (a : Record) (rs : List Record) → IsAt m a rs → List·Memᴰ a rs
 at-member m a [] at = absurd (none-at m a at)
-at-member zero a (b ∷ rs) at = List·Memᴰ·head (sym (ap (firstOr b) (at .1)))
+at-member zero a (b ∷ rs) at = List·Memᴰ·head (sym (first-same b a rs (at .0) (at .1)))
 at-member (suc m) a (b ∷ rs) at = List·Memᴰ·tail (at-member m a rs at)
 
 module _ (r : Record) where
@@ -86,7 +86,7 @@ module _ (r : Record) where
   place-below : (m : ℕ) (a : Record) (rs : List Record) → IsAt m a rs → precedes r a ≡ true → placeOf r rs ≤ m
   unfolding firstOf
   place-below m a [] at h = absurd (none-at m a at)
-  place-below zero a (b ∷ rs) at h = rw (ap (precedes r) (ap (firstOr b) (at .1)) ∙ h) (omega arith)
+  place-below zero a (b ∷ rs) at h = rw (ap (precedes r) (first-same b a rs (at .0) (at .1)) ∙ h) (omega arith)
   place-below (suc m) a (b ∷ rs) at h = go (precedes r b) (place-below m a rs at h)
     where
       go : (t : Bool) → placeOf r rs ≤ m → cond t 0 (suc (placeOf r rs)) ≤ suc m
@@ -97,7 +97,7 @@ module _ (r : Record) where
   place-above : (m : ℕ) (a : Record) (rs : List Record) → IsAt m a rs → isSorted rs ≡ true → precedes r a ≡ false → m < placeOf r rs
   unfolding firstOf
   place-above m a [] at o h = absurd (none-at m a at)
-  place-above zero a (b ∷ rs) at o h = rw (ap (precedes r) (ap (firstOr b) (at .1)) ∙ h) (omega arith)
+  place-above zero a (b ∷ rs) at o h = rw (ap (precedes r) (first-same b a rs (at .0) (at .1)) ∙ h) (omega arith)
   place-above (suc m) a (b ∷ rs) at o h = go (precedes r b) refl (place-above m a rs at (sorted-rest b rs o) h)
     where
       go : (t : Bool) → precedes r b ≡ t → m < placeOf r rs → suc m < cond t 0 (suc (placeOf r rs))
