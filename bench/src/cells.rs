@@ -2,7 +2,7 @@
 //! times of the index, which are spread over its third phase.
 
 use crate::asks::{middle, HOUR, METHODS, SIDES};
-use crate::fleet::{fleet, FLEETS};
+use crate::fleet::{Fleet, FLEETS};
 use buffers::{Words, HELD, NOW, PHASE};
 use float_index::{Reply, MOST_HELD};
 
@@ -35,7 +35,8 @@ pub struct Cells {
 /// Every ask, in the order of the table.
 pub fn all() -> Vec<Cells> {
     let mut all = Vec::new();
-    for fleet in FLEETS.map(|floats| at_times(&fleet(floats, 3))) {
+    let first = Fleet::first();
+    for fleet in FLEETS.map(|floats| at_times(&first.words(floats, 3))) {
         for side in SIDES {
             all.extend(ASKED.map(|asked| means(&fleet, side, asked)));
         }

@@ -2,6 +2,7 @@
 //! lent memory and a linear scan, and writes the page of results.
 //!
 //!     bench FILE      measures, and writes FILE
+//!     bench --rows    measures, and prints the index's times, tab-separated
 //!     bench --cells   prints the page's section on cells read, and measures nothing
 //!     bench           a short run, which checks that index and twin agree
 
@@ -9,33 +10,41 @@ mod asks;
 mod calls;
 mod cells;
 mod fleet;
+mod goals;
+mod inner;
 mod measure;
+mod names;
 mod page;
+mod row;
 mod twin;
 
-use measure::{least, Bench};
+use measure::{measured, ROUNDS, RUNS};
+use row::Row;
 use std::process::ExitCode;
-
-/// How often each call is measured in a round, and how many rounds there are.
-const RUNS: usize = 201;
-const ROUNDS: usize = 5;
 
 fn main() -> ExitCode {
     match std::env::args().nth(1).as_deref() {
         None => {
-            let calls = Bench { runs: 3 }.all().len();
+            let calls: usize = measured(&rows(), 1, 1).iter().map(|t| t.row.calls.len()).sum();
             println!("index and twin agree in {calls} calls");
         }
         Some("--cells") => print!("{}", page::cells_read(&cells::all())),
+        Some("--rows") => print!("{}", page::values(&measured(&rows(), ROUNDS, RUNS))),
         Some(file) => return write(file),
     }
     ExitCode::SUCCESS
 }
 
+/// The rows, in which index and twin agree.
+fn rows() -> Vec<Row> {
+    let rows = calls::rows();
+    rows.iter().for_each(Row::check);
+    rows
+}
+
 /// Measures, and writes the page.
 fn write(file: &str) -> ExitCode {
-    let rounds: Vec<_> = (0..ROUNDS).map(|_| Bench { runs: RUNS }.all()).collect();
-    let page = page::page(&least(&rounds), &cells::all(), ROUNDS, RUNS);
+    let page = page::page(&measured(&rows(), ROUNDS, RUNS), &cells::all());
     print!("{page}");
     match std::fs::write(file, page) {
         Ok(()) => ExitCode::SUCCESS,

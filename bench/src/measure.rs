@@ -1,16 +1,29 @@
-//! Times of one call: the index's, the twin's and the others' in turn, so that
-//! a busy machine disturbs all of them alike.
+//! Times of calls on several stores in turn: the index's, the twin's and the others'
+//! one after the other, so that a busy machine disturbs all of them alike.
 
-use buffers::{Words, HELD};
+use crate::row::{Call, Row};
+use buffers::Words;
 use float_index::{Reply, MOST_HELD};
+use std::array::from_fn;
 use std::hint::black_box;
 use std::time::Instant;
 
-/// Median times of one call, in microseconds.
-pub struct Times {
-    pub call: String,
-    pub floats: usize,
+/// How many rounds there are, and the runs of a round. A run goes through all rows and
+/// takes the stores of each in turn once. Taken several times before the next row, even
+/// eight stores are learned.
+pub const ROUNDS: usize = 5;
+pub const RUNS: usize = 13;
+/// How often a run repeats a call on one store. Half of them are enough to learn it.
+pub const REPEATS: usize = 25;
+
+/// Times of a row, in microseconds: means over the stores in turn, and of the index
+/// besides on the first store alone.
+pub struct Times<'a> {
+    pub row: &'a Row,
     pub index: f64,
+    pub one_store: f64,
+    /// An ask of the first store without its soundness test, where it can be measured.
+    pub inner: Option<f64>,
     pub twin: f64,
     /// One pass over the lent memory: the fastest, and the exact sum.
     pub pass: f64,
@@ -19,11 +32,18 @@ pub struct Times {
     pub scan: Option<f64>,
 }
 
-/// One call, on buffers that it may change.
-pub type Act<'a> = &'a dyn Fn(&mut Words, &mut [u16]) -> Reply;
+/// The numbers of `Times` in their order.
+type Sample = [f64; 7];
 
-/// A linear scan, which gives how many ids it wrote.
-pub type Scan<'a> = &'a dyn Fn(&Words, &mut [u16]) -> usize;
+impl<'a> Times<'a> {
+    fn new(row: &'a Row, sample: Sample) -> Times<'a> {
+        let [index, one_store, inner, twin, pass, exact_pass, scan] = sample;
+        let first = &row.calls[0];
+        let inner = first.again.as_ref().map(|_| inner);
+        let scan = first.scan.as_ref().map(|_| scan);
+        Times { row, index, one_store, inner, twin, pass, exact_pass, scan }
+    }
+}
 
 /// The sum of all numbers as far as their own width holds it: the fastest way to
 /// look at each of them once.
@@ -55,84 +75,87 @@ fn median(mut times: Vec<f64>) -> f64 {
     times[times.len() / 2]
 }
 
-pub struct Bench {
-    /// How often each call is measured.
-    pub runs: usize,
+fn least(times: Vec<f64>) -> f64 {
+    times.into_iter().fold(f64::INFINITY, f64::min)
 }
 
-impl Bench {
-    /// Measures a call on buffers that are the same each time. Index and twin
-    /// must agree in every number.
-    pub fn times(
-        &self,
-        call: String,
-        base: &Words,
-        index: Act,
-        twin: Act,
-        scan: Option<Scan>,
-    ) -> Times {
-        check_same(&call, base, index, twin, scan);
-        let mut words = base.clone();
-        let mut list = vec![0; MOST_HELD];
-        let mut all: [Vec<f64>; 5] = Default::default();
-        for _ in 0..self.runs {
-            for (act, times) in [(index, 0), (twin, 1)] {
-                words.clone_from(base);
-                all[times].push(microseconds(|| act(&mut words, &mut list)));
-            }
-            words.clone_from(base);
-            all[2].push(microseconds(|| pass(&words)));
-            all[3].push(microseconds(|| exact_pass(&words)));
-            all[4].push(microseconds(|| scan.map(|scan| scan(&words, &mut list))));
+/// The buffers that measured calls work on.
+struct Desk {
+    words: Words,
+    list: Vec<u16>,
+}
+
+impl Desk {
+    fn new() -> Desk {
+        Desk { words: Words::unopened(), list: vec![0; MOST_HELD] }
+    }
+
+    /// The time of some work on a fresh copy of a call's store.
+    fn time<R>(&mut self, call: &Call, work: impl Fn(&Call, &mut Desk) -> R) -> f64 {
+        self.words.clone_from(&call.base);
+        microseconds(|| work(call, self))
+    }
+
+    /// The mean over the calls' stores in turn. The last one goes first, untimed: the
+    /// work's code was not run for a while.
+    fn in_turn<R>(&mut self, calls: &[Call], work: impl Fn(&Call, &mut Desk) -> R) -> f64 {
+        if let Some(last) = calls.last() {
+            self.time(last, &work);
         }
-        let [index, twin, pass, exact_pass, scanned] = all.map(median);
-        Times {
-            call,
-            floats: base.store[HELD] as usize,
-            index,
-            twin,
-            pass,
-            exact_pass,
-            scan: scan.map(|_| scanned),
-        }
+        let times = calls.iter().map(|call| self.time(call, &work));
+        times.sum::<f64>() / calls.len() as f64
+    }
+
+    /// What each further ask of words takes that are tested once.
+    fn inner(&mut self, call: &Call) -> f64 {
+        let [first, all] = [1, 1 + REPEATS].map(|times| {
+            self.time(call, |call, desk| {
+                call.again.as_ref().map(|again| again(&desk.words, &mut desk.list, times))
+            })
+        });
+        (all - first) / REPEATS as f64
+    }
+
+    /// A row's stores in turn once, then the first of them alone.
+    fn run(&mut self, row: &Row) -> Sample {
+        let (calls, first) = (&row.calls, &row.calls[0]);
+        let index = self.in_turn(calls, index);
+        let twin = self.in_turn(calls, twin);
+        let pass = self.in_turn(calls, |_, desk| pass(&desk.words));
+        let exact_pass = self.in_turn(calls, |_, desk| exact_pass(&desk.words));
+        let scan = self.in_turn(calls, scan);
+        let one_store = median((0..REPEATS).map(|_| self.time(first, self::index)).collect());
+        let inner = self.inner(first);
+        [index, one_store, inner, twin, pass, exact_pass, scan]
     }
 }
 
-/// The least of each call's medians over several rounds: one in which the machine
-/// was slow, as it may be at first, does not count.
-pub fn least(rounds: &[Vec<Times>]) -> Vec<Times> {
-    let first = rounds.first().into_iter().flatten();
-    let calls = first.enumerate().map(|(row, first)| {
-        let of = |time: fn(&Times) -> f64| {
-            let times = rounds.iter().map(|round| time(&round[row]));
-            times.fold(f64::INFINITY, f64::min)
-        };
-        Times {
-            call: first.call.clone(),
-            floats: first.floats,
-            index: of(|t| t.index),
-            twin: of(|t| t.twin),
-            pass: of(|t| t.pass),
-            exact_pass: of(|t| t.exact_pass),
-            scan: first.scan.map(|_| of(|t| t.scan.unwrap_or(f64::NAN))),
-        }
-    });
-    calls.collect()
+fn index(call: &Call, desk: &mut Desk) -> Reply {
+    (call.index)(&mut desk.words, &mut desk.list)
 }
 
-fn check_same(call: &str, base: &Words, index: Act, twin: Act, scan: Option<Scan>) {
-    let results = [index, twin].map(|act| {
-        let mut words = base.clone();
-        let mut list = vec![0; MOST_HELD];
-        let reply = act(&mut words, &mut list);
-        (reply, words, list)
-    });
-    assert!(results[0] == results[1], "{call}: the twin differs");
-    assert!(results[0].0.is_accepted(), "{call}: refused");
-    if let Some(scan) = scan {
-        let mut list = vec![0; MOST_HELD];
-        let listed = scan(base, &mut list);
-        assert!(listed == results[0].0.value, "{call}: the scan differs");
-        assert!(list == results[0].2, "{call}: the scan differs");
-    }
+fn twin(call: &Call, desk: &mut Desk) -> Reply {
+    (call.twin)(&mut desk.words, &mut desk.list)
+}
+
+fn scan(call: &Call, desk: &mut Desk) -> Option<usize> {
+    call.scan.as_ref().map(|scan| scan(&desk.words, &mut desk.list))
+}
+
+/// Of several samples of each row one.
+fn of_each_row(all: &[Vec<Sample>], one: fn(Vec<f64>) -> f64) -> Vec<Sample> {
+    let rows = 0..all.first().map_or(0, Vec::len);
+    let sample = |row: usize| from_fn(|k| one(all.iter().map(|s| s[row][k]).collect()));
+    rows.map(sample).collect()
+}
+
+/// The times of the rows: the least of each one's medians over several rounds. One in
+/// which the machine was slow, as it may be at first, does not count.
+pub fn measured(rows: &[Row], rounds: usize, runs: usize) -> Vec<Times<'_>> {
+    let mut desk = Desk::new();
+    let mut run = || rows.iter().map(|row| desk.run(row)).collect();
+    let mut round = || of_each_row(&(0..runs).map(|_| run()).collect::<Vec<_>>(), median);
+    let rounds: Vec<_> = (0..rounds).map(|_| round()).collect();
+    let samples = of_each_row(&rounds, least);
+    rows.iter().zip(samples).map(|(row, sample)| Times::new(row, sample)).collect()
 }

@@ -15,6 +15,8 @@ fn main() {
     }
     println!("cargo:rerun-if-changed={}", library.display());
     println!("cargo:rerun-if-env-changed=FLOAT_INDEX_LIBRARY");
+    // For the build scripts of those that depend on it.
+    println!("cargo:folder={}", folder.display());
     println!("cargo:rustc-link-search=native={}", folder.display());
     println!("cargo:rustc-link-lib=static=capi");
 }

@@ -2,13 +2,14 @@
 -- Assumes nothing.
 use mathlib.Core.Path.{_≡_, refl, sym, ap, _∙_}
 use mathlib.Core.Bool.{Bool, true, false}
-use mathlib.Core.List.{List, [], _∷_, _++_}
-use Prim.Native.Nat.{ℕ, zero, suc, _+_, _-_, _≤_, _<_}
+use mathlib.Core.List.{List, [], _∷_, _++_, append-nil, append-assoc}
+use Prim.Native.Nat.{ℕ, zero, suc, _+_, _-_, _*_, _≤_, _<_}
 use native.Mathlib.Omega.{arith}
 use borrow.Author.Tests.{lt-ltb, le-ltb}
-use lib.ListN.{length, drop, length-replicate}
+use lib.ListN.{length, take, drop, replicate, length-drop}
+use lib.Seq.{length-take-le, take-append-add, take-append-le}
 use Rattle.ints.specs.Whole.{up}
-use Rattle.grid.specs.Units.{cells, idMarks}
+use Rattle.grid.specs.Units.{cells, capacity, idMarks}
 use Rattle.grid.specs.Reports.{isListed}
 use Rattle.rows.specs.Row.{emptyRow, isEmpty, sameRow}
 use Rattle.rows.specs.Phases.{phaseOf, isLive, slotOf, livePhases, lastPhase}
@@ -20,17 +21,20 @@ use Rattle.methods.specs.Slots.{rowsOfSlot}
 use Rattle.choosing.specs.Choose.{ChosenBy}
 use Rattle.methods.specs.declared.Block.{Block}
 use Rattle.methods.proofs.Nesting.{next}
+use Rattle.methods.proofs.Views.{query-is-fair}
 use Rattle.methods.proofs.Rounds.{none-is, same-is, onward-is}
 use Rattle.records.specs.Words.{Words, timeIn, recordsIn}
 use Rattle.records.specs.Soundness.{IsStore}
 use Rattle.records.specs.declared.Record.{Record}
 use Rattle.records.proofs.SoundnessLaws as Sound
 use Rattle.records.proofs.SoundnessRangeLaws.{last-phase}
-use Rattle.reading.specs.Reading.{ReadingOf, SmallReading, listedIn, cellsIn, usefulIn, withIds}
-use Rattle.reading.specs.Ids.{rising}
+use Rattle.reading.specs.Reading.{ReadingOf, SmallReading, listedIn, cellsIn, usefulIn, idsOf}
+use Rattle.reading.specs.Ids.{rising, marksOfIds}
+use Rattle.reading.specs.Needs.{CanList}
 use Rattle.reading.specs.declared.Reading.{Reading}
 use Rattle.reading.proofs.ReadingLaws.{few-listed, cells-few}
 use Rattle.reading.proofs.ReadingUsefulLaws.{few-useful}
+use Rattle.reading.proofs.IdsPutLaws.{marks-are}
 use Rattle.ledger.specs.Answers.{numberOf, valueOf, countsOf}
 use Rattle.ledger.specs.Machine.{summed}
 use Rattle.ledger.specs.Refusals.{firstToFail}
@@ -40,11 +44,11 @@ use Rattle.ledger.specs.declared.Ask.{Ask}
 use Rattle.ledger.specs.declared.Refusal.the-variants.{ListTooShort}
 use Rattle.ledger.specs.declared.Verdict.{Verdict}
 use Rattle.ledger.specs.declared.Verdict.the-variants.{Passed, Failed}
-use Rattle.asking.specs.Asking.{listedOf, foundIn, phasesNow, idsNeeded, idsFound, cellsCounted, usefulCounted, roundsCounted, AskOutcome, GivesList}
-use Rattle.asking.specs.Counted.{CanAsk, noIds, roomChecks, settledByRoom, CanChooseIn, CanReadIn, ReadIn, SmallCounts, CountedTogether, CountedIn, CountedOver}
+use Rattle.asking.specs.Asking.{listedOf, phasesNow, idsNeeded, idsFound, cellsCounted, usefulCounted, roundsCounted, AskOutcome, GivesList}
+use Rattle.asking.specs.Counted.{CanAsk, roomChecks, settledByRoom, CanChooseIn, CanReadIn, ReadIn, SmallCounts, CountedTogether, idsListed, CountedIn, CountedAlso, CountedOver}
 use Rattle.asking.specs.declared.Counts.{Counts}
-use Rattle.asking.proofs.AskingPhasesLaws.{FitAsk, fit-ask, good-method, fit-small, asked-in, small-times, can-count}
-use Rattle.asking.proofs.Claims.{list-is-exact}
+use Rattle.asking.proofs.AskingPhasesLaws.{FitAsk, fit-ask, good-method, fit-small, fit-in-order, asked-in, small-times, can-count}
+use Rattle.asking.proofs.Claims.{found-is, list-is-exact}
 
 module _ (w : Words) (ask : Ask) (can : CanAsk w ask) where
   parts : Sound.Sound (w .store) (w .table)
@@ -64,14 +68,15 @@ module _ (w : Words) (ask : Ask) (can : CanAsk w ask) where
     slot = record { has-slot = record { whole-table = parts .table-long; one-of-three = slot-on p }; valid-rows = parts .valid };
     can-see = record { times = can-count (timeIn w) p (small-phase p live) (ask .query .when) (fit .times) };
     is-ask = asked-in (timeIn w) (ask .query) fit (parts .store .time) p live;
+    fair = query-is-fair p (ask .query) (fit-in-order (timeIn w) (ask .query) fit);
     good-method = good-method ask (can .good-numbers);
   }
 
-  pub can-read : (ids : List ℕ) → length ids ≡ idMarks → CanReadIn (w .store) (ask .query) ids
+  pub can-read : (ids : List ℕ) → capacity < length ids → CanReadIn (w .store) (ask .query) ids
   can-read ids h = record {
     is-store = ask-store;
     small = record { rect = fit-small (timeIn w) (ask .query) fit; times = small-times (timeIn w) (ask .query .when) (fit .times) };
-    all-marks = h;
+    room = h;
   }
 
 -- ---- bounds
@@ -120,11 +125,11 @@ module _ (w : Words) (ask : Ask) (p : ℕ) (store : IsStore (w .store)) where
 
   -- the set that was read is the one that was chosen
   pub counted :
-      (marks ids ids′ : List ℕ) (rounds : ℕ) (r : Reading)
+      (marks ids : List ℕ) (rounds : ℕ) (r : Reading)
       → ChosenBy (up (ask .method)) (w .table) (slotOf p) (aimIn p (ask .query)) marks rounds
-      → ReadIn marks p (ask .query) (recordsIn w) ids ids′ r
-      → CountedIn w ask p ids ids′ (record { read = r; rounds = rounds })
-  counted marks ids ids′ rounds r c h =
+      → ReadIn marks p (ask .query) (recordsIn w) ids r
+      → CountedIn w ask p ids (record { read = r; rounds = rounds })
+  counted marks ids rounds r c h =
       let m = c .marks-are in
       let read = h .reading-is in
       record {
@@ -132,7 +137,8 @@ module _ (w : Words) (ask : Ask) (p : ℕ) (store : IsStore (w .store)) where
         cells-are = read .cells-are ∙ ap (λ (x : List ℕ). cellsIn x 0 cells) m;
         useful-are = read .useful-are ∙ ap (λ (x : List ℕ). usefulIn (slotOf p) (listedBy x) 0 cells) m;
         rounds-are = c .rounds-are;
-        found-are = h .found-are ∙ ap (λ (x : List ℕ). withIds ids (listedBy x)) m;
+        ids-are = h .ids-are ∙ ap (λ (x : List ℕ). idsOf (listedBy x)) m;
+        few-listed = let l = few-listed marks (slotOf p) (isListed (ask .query)) (recordsIn w) in let k = store .few in let e = read .listed-are in omega arith;
         small = record {
           few-read = small-reading marks r read;
           few-rounds = let k = few-rounds (rowsOfSlot (w .table) (slotOf p)) (aimIn p (ask .query)) (up (ask .method)) in let e = c .rounds-are in omega arith;
@@ -141,57 +147,92 @@ module _ (w : Words) (ask : Ask) (p : ℕ) (store : IsStore (w .store)) where
 
 -- ---- and over the live phases, which are one, two or three
 
-pub sum-small : (a b r : Counts) → SmallCounts idMarks a → SmallCounts idMarks b → CountedTogether a b r → SmallCounts 1000000 r
-sum-small a b r x y e = omega arith
-
-pub small-room : (a : Counts) → SmallCounts idMarks a → SmallCounts 1000000 a
-small-room a x = omega arith
+pub small-room : {most : ℕ} (more : ℕ) (a : Counts) → most ≤ more → SmallCounts most a → SmallCounts more a
+small-room more a h x = omega arith
 
 module _ (w : Words) (ask : Ask) where
-  pub over-one : (ps : List ℕ) (p : ℕ) → ps ≡ p ∷ [] → (f g : List ℕ) (a : Counts) → CountedIn w ask p f g a → CountedOver w ask ps f g a
-  unfolding summed foundIn
-  over-one ps p e f g a x = rw e (record {
+  -- the ids of a phase more stand behind those that stood already
+  pub counted-also :
+      (p : ℕ) (before here c : Counts) (ids more rest : List ℕ) (n : ℕ)
+      → n ≡ before .read .listed
+      → before .read .listed + capacity < length ids
+      → CountedIn w ask p more here
+      → length more ≡ length (take (length ids - n) (drop n ids))
+      → CountedTogether before here c
+      → CountedAlso w ask p before ids (take n ids ++ (more ++ rest)) c
+  counted-also p before here c ids more rest n e room x l z =
+      let few = x .few-listed in
+      let part = l ∙ length-take-le (length ids - n) (drop n ids) (omega (arith, length-drop n ids)) in
+      let sum : c .read .listed ≡ n + here .read .listed = z .read-sum .listed-sum ∙ ap (λ (k : ℕ). k + here .read .listed) (sym e) in
+      let long : length (take n ids) ≡ n = length-take-le n ids (omega arith) in
+      let front : take (n + here .read .listed) (take n ids ++ (more ++ rest)) ≡ take n ids ++ take (here .read .listed) (more ++ rest) =
+      ap (λ (k : ℕ). take (k + here .read .listed) (take n ids ++ (more ++ rest))) (sym long) ∙ take-append-add (take n ids) (more ++ rest) (here .read .listed) in
+      let behind : take (here .read .listed) (more ++ rest) ≡ idsOf (listedOf w ask p) = take-append-le (here .read .listed) more rest (omega arith) ∙ x .ids-are in
+      record {
+        listed-are = let h = x .listed-are in omega (arith, z .read-sum .listed-sum);
+        cells-are = let h = x .cells-are in omega (arith, z .read-sum .cells-sum);
+        useful-are = let h = x .useful-are in omega (arith, z .read-sum .useful-sum);
+        rounds-are = let h = x .rounds-are in omega (arith, z .rounds-sum);
+        ids-are = ap (λ (k : ℕ). take k (take n ids ++ (more ++ rest))) sum ∙ front ∙ (λ i. take (e i) ids ++ behind i);
+        few-listed = omega arith;
+        small = λ most s. let h = x .small in omega (arith, z .read-sum .listed-sum, z .read-sum .cells-sum, z .read-sum .useful-sum, z .rounds-sum);
+      }
+
+  pub over-one : (ps : List ℕ) (p : ℕ) → ps ≡ p ∷ [] → (ids : List ℕ) (a : Counts) → 3 * capacity < length ids → CountedIn w ask p ids a → CountedOver w ask ps ids a
+  unfolding summed idsListed
+  over-one ps p e ids a room x = rw e (record {
     listed-are = let h = x .listed-are in omega arith;
     cells-are = let h = x .cells-are in omega arith;
     useful-are = let h = x .useful-are in omega arith;
     rounds-are = let h = x .rounds-are in omega arith;
-    found-are = x .found-are;
+    ids-are = x .ids-are ∙ sym (append-nil (idsOf (listedOf w ask p)));
+    inside = let h = x .few-listed in omega arith;
   })
 
   pub over-two :
       (ps : List ℕ) (p p′ : ℕ)
       → ps ≡ p ∷ p′ ∷ []
-      → (f g h : List ℕ) (a b r : Counts)
-      → CountedIn w ask p f g a
-      → CountedIn w ask p′ g h b
-      → CountedTogether a b r
-      → CountedOver w ask ps f h r
-  unfolding summed foundIn
-  over-two ps p p′ e f g h a b r x y z = rw e (record {
-    listed-are = let i = x .listed-are in let j = y .listed-are in omega (arith, z .read-sum .listed-sum);
-    cells-are = let i = x .cells-are in let j = y .cells-are in omega (arith, z .read-sum .cells-sum);
-    useful-are = let i = x .useful-are in let j = y .useful-are in omega (arith, z .read-sum .useful-sum);
-    rounds-are = let i = x .rounds-are in let j = y .rounds-are in omega (arith, z .rounds-sum);
-    found-are = y .found-are ∙ ap (λ (l : List ℕ). withIds l (listedOf w ask p′)) (x .found-are);
+      → (ids ids′ : List ℕ) (a b : Counts)
+      → 3 * capacity < length ids′
+      → CountedIn w ask p ids a
+      → CountedAlso w ask p′ a ids ids′ b
+      → CountedOver w ask ps ids′ b
+  unfolding summed idsListed
+  over-two ps p p′ e ids ids′ a b room x y = rw e (record {
+    listed-are = let i = x .listed-are in let j = y .listed-are in omega arith;
+    cells-are = let i = x .cells-are in let j = y .cells-are in omega arith;
+    useful-are = let i = x .useful-are in let j = y .useful-are in omega arith;
+    rounds-are = let i = x .rounds-are in let j = y .rounds-are in omega arith;
+    ids-are =
+        let second = idsOf (listedOf w ask p′) in
+        y .ids-are ∙ ap (λ (l : List ℕ). l ++ second) (x .ids-are) ∙ ap (λ (l : List ℕ). idsOf (listedOf w ask p) ++ l) (sym (append-nil second));
+    inside = let i = x .few-listed in let j = y .few-listed in omega arith;
   })
 
   pub over-three :
       (ps : List ℕ) (p p′ p″ : ℕ)
       → ps ≡ p ∷ p′ ∷ p″ ∷ []
-      → (f g h k : List ℕ) (a b c d r : Counts)
-      → CountedIn w ask p f g a
-      → CountedIn w ask p′ g h b
-      → CountedIn w ask p″ h k c
-      → CountedTogether a b d
-      → CountedTogether d c r
-      → CountedOver w ask ps f k r
-  unfolding summed foundIn
-  over-three ps p p′ p″ e f g h k a b c d r x y v z u = rw e (record {
-    listed-are = let i = x .listed-are in let j = y .listed-are in let l = v .listed-are in omega (arith, z .read-sum .listed-sum, u .read-sum .listed-sum);
-    cells-are = let i = x .cells-are in let j = y .cells-are in let l = v .cells-are in omega (arith, z .read-sum .cells-sum, u .read-sum .cells-sum);
-    useful-are = let i = x .useful-are in let j = y .useful-are in let l = v .useful-are in omega (arith, z .read-sum .useful-sum, u .read-sum .useful-sum);
-    rounds-are = let i = x .rounds-are in let j = y .rounds-are in let l = v .rounds-are in omega (arith, z .rounds-sum, u .rounds-sum);
-    found-are = v .found-are ∙ ap (λ (l : List ℕ). withIds l (listedOf w ask p″)) (y .found-are ∙ ap (λ (l : List ℕ). withIds l (listedOf w ask p′)) (x .found-are));
+      → (ids ids′ ids″ : List ℕ) (a b c : Counts)
+      → 3 * capacity < length ids″
+      → CountedIn w ask p ids a
+      → CountedAlso w ask p′ a ids ids′ b
+      → CountedAlso w ask p″ b ids′ ids″ c
+      → CountedOver w ask ps ids″ c
+  unfolding summed idsListed
+  over-three ps p p′ p″ e ids ids′ ids″ a b c room x y z = rw e (record {
+    listed-are = let i = x .listed-are in let j = y .listed-are in let k = z .listed-are in omega arith;
+    cells-are = let i = x .cells-are in let j = y .cells-are in let k = z .cells-are in omega arith;
+    useful-are = let i = x .useful-are in let j = y .useful-are in let k = z .useful-are in omega arith;
+    rounds-are = let i = x .rounds-are in let j = y .rounds-are in let k = z .rounds-are in omega arith;
+    ids-are =
+        let first = idsOf (listedOf w ask p) in
+        let second = idsOf (listedOf w ask p′) in
+        let third = idsOf (listedOf w ask p″) in
+        z .ids-are
+        ∙ ap (λ (l : List ℕ). l ++ third) (y .ids-are ∙ ap (λ (l : List ℕ). l ++ second) (x .ids-are))
+        ∙ append-assoc first second third
+        ∙ ap (λ (l : List ℕ). first ++ (second ++ l)) (sym (append-nil third));
+    inside = let i = x .few-listed in let j = y .few-listed in let k = z .few-listed in omega arith;
   })
 
 pub phases-one : (c : ℕ) → c < 1 → livePhases c ≡ c ∷ []
@@ -220,11 +261,7 @@ pub gives-list : (o : AskOutcome) (a : Answer) (list : List ℕ) → a ≡ o .an
 gives-list o a list e x =
     record { number-is = ap numberOf e; value-is = ap valueOf e; counts-are = ap countsOf e; answer-is = e; list-is = x }
 
-pub no-ids-long : length noIds ≡ idMarks
-unfolding noIds
-no-ids-long = length-replicate {A = ℕ} idMarks 0
-
-module _ (w : Words) (ask : Ask) (can : CanAsk w ask) (list ids : List ℕ) (c : Counts) (o : CountedOver w ask (phasesNow w ask) noIds ids c) where
+module _ (w : Words) (ask : Ask) (can : CanAsk w ask) (list ids : List ℕ) (c : Counts) (o : CountedOver w ask (phasesNow w ask) ids c) where
   needed : c .read .listed ≡ idsNeeded w ask
   unfolding idsNeeded
   needed = o .listed-are
@@ -241,18 +278,28 @@ module _ (w : Words) (ask : Ask) (can : CanAsk w ask) (list ids : List ℕ) (c :
   unfolding roundsCounted
   rounds-are = o .rounds-are
 
-  found-is : rising ids ≡ idsFound w ask
-  unfolding idsFound noIds
-  found-is = ap rising (o .found-are)
+  -- the ids in front, as many as are needed
+  abbrev front : List ℕ
+  front = take (c .read .listed) ids
+
+  front-long : length front ≡ c .read .listed
+  front-long = length-take-le (c .read .listed) ids (o .inside)
+
+  front-found : rising (marksOfIds front) ≡ idsFound w ask
+  unfolding idsFound marksOfIds
+  front-found =
+      let ps = phasesNow w ask in
+      ap (λ (l : List ℕ). rising (marksOfIds l)) (o .ids-are)
+      ∙ ap rising (marks-are (replicate idMarks 0) (idsListed w ask ps) ∙ sym (found-is w ask (replicate idMarks 0) ps))
 
   -- the ids found are as many as are needed, since the list is exact
-  count-is : length (rising ids) ≡ c .read .listed
+  count-is : length (idsFound w ask) ≡ c .read .listed
   count-is =
       let e = list-is-exact w (can .sound) ask (can .good-time) (can .good-numbers) in
-      ap length (found-is ∙ e .0) ∙ (sym (e .1) ∙ sym needed)
+      ap length (e .0) ∙ (sym (e .1) ∙ sym needed)
 
-  pub enough : c .read .listed ≤ length list → length (rising ids) ≤ length list
-  enough h = omega (arith, count-is)
+  pub enough : c .read .listed ≤ length list → CanList front list
+  enough h = record { as-many = ap length front-found ∙ count-is ∙ sym front-long; room = omega (arith, front-long) }
 
   abbrev verdict : Verdict
   verdict = firstToFail (roomChecks (length list) (idsNeeded w ask))
@@ -271,10 +318,11 @@ module _ (w : Words) (ask : Ask) (can : CanAsk w ask) (list ids : List ℕ) (c :
   pub full :
       c .read .listed ≤ length list
       → (list′ : List ℕ)
-      → list′ ≡ rising ids ++ drop (length (rising ids)) list
+      → list′ ≡ rising (marksOfIds front) ++ drop (length front) list
       → GivesList (settledByRoom w ask list) (Listed (c .read .listed) (c .read .cells) (c .read .useful) (c .rounds)) list′
   full h list′ e =
+      let l : length front ≡ length (idsFound w ask) = front-long ∙ sym count-is in
       rw (has-room h)
       (gives-list _ _ _
       (λ i. Listed (needed i) (cells-are i) (useful-are i) (rounds-are i))
-      (e ∙ ap (λ (l : List ℕ). l ++ drop (length l) list) found-is))
+      (e ∙ (λ i. front-found i ++ drop (l i) list)))

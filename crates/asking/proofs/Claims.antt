@@ -2,7 +2,7 @@
 -- Assumes nothing.
 use mathlib.Core.Path.{_≡_, refl, sym, ap, _∙_}
 use mathlib.Core.Bool.{Bool, true, false, _&&_, not, cond}
-use mathlib.Core.List.{List, [], _∷_, _++_, map, List·Memᴰ, List·Memᴰ·head, List·Memᴰ·tail, List·Memᴰ·cases-cons, List·Memᴰ·not-nil}
+use mathlib.Core.List.{List, [], _∷_, map, List·Memᴰ, List·Memᴰ·head, List·Memᴰ·tail, List·Memᴰ·cases-cons, List·Memᴰ·not-nil}
 use mathlib.Core.List.{List·Memᴰ·append-cases, Memᴰ·append-left, Memᴰ·append-right, Memᴰ·cast}
 use mathlib.Core.Logic.{⊎-elim}
 use Prim.Native.Nat.{ℕ, suc, _<_, _≤_}
@@ -38,6 +38,7 @@ use Rattle.ledger.specs.Machine.{putInOrder}
 use Rattle.ledger.proofs.MachineIdsLaws.{inOrder, in-order-in, in-order-has, in-order-length, Apart, empty, more, in-order-rising}
 use Rattle.asking.specs.Asking.{marksIn, listedOf, foundIn, phasesNow, idsNeeded, idsFound}
 use Rattle.asking.specs.Claims.{idsInside, ListIsExact}
+use Rattle.asking.specs.Counted.{idsListed}
 use Rattle.asking.proofs.AskingPhasesLaws.{FitAsk, fit-ask, phaseOfRecord, isInside, isInsideIn, float-at, listed-of-phase, needed-is}
 
 -- ---- the ids inside
@@ -93,23 +94,18 @@ inside-apart now f (r ∷ rs) sound h =
 -- ---- the ids found
 
 module _ (w : Words) (ask : Ask) where
-  -- the ids listed in some phases
-  foundIds : List ℕ → List ℕ
-  foundIds [] = []
-  foundIds (p ∷ ps) = map idOf (listedOf w ask p) ++ foundIds ps
-
-  found-is : (found ps : List ℕ) → foundIn w ask found ps ≡ marked found (foundIds ps)
-  unfolding foundIn foundIds marked
+  pub found-is : (found ps : List ℕ) → foundIn w ask found ps ≡ marked found (idsListed w ask ps)
+  unfolding foundIn idsListed marked
   found-is found [] = refl
   found-is found (p ∷ ps) =
       let here = listedOf w ask p in
       found-is (withIds found here) ps
-      ∙ ap (λ (marks : List ℕ). marked marks (foundIds ps)) (ids-marked found here)
-      ∙ marked-more found (map idOf here) (foundIds ps)
+      ∙ ap (λ (marks : List ℕ). marked marks (idsListed w ask ps)) (ids-marked found here)
+      ∙ marked-more found (map idOf here) (idsListed w ask ps)
 
   -- each is the id of a record inside
-  found-inside : (ps : List ℕ) {n : ℕ} → List·Memᴰ n (foundIds ps) → List·Memᴰ n (map idOf (passing (isInside (ask .query)) (recordsIn w)))
-  unfolding foundIds
+  found-inside : (ps : List ℕ) {n : ℕ} → List·Memᴰ n (idsListed w ask ps) → List·Memᴰ n (map idOf (passing (isInside (ask .query)) (recordsIn w)))
+  unfolding idsListed
   found-inside [] m = absurd (List·Memᴰ·not-nil m)
   found-inside (p ∷ ps) {n} m =
       ⊎-elim
@@ -124,20 +120,20 @@ module _ (w : Words) (ask : Ask) where
       (λ k. found-inside ps k)
       (List·Memᴰ·append-cases (map idOf (listedOf w ask p)) m)
 
-  found-has : (ps : List ℕ) (p : ℕ) → List·Memᴰ p ps → {r : Record} → List·Memᴰ r (listedOf w ask p) → List·Memᴰ (idOf r) (foundIds ps)
-  unfolding foundIds
+  found-has : (ps : List ℕ) (p : ℕ) → List·Memᴰ p ps → {r : Record} → List·Memᴰ r (listedOf w ask p) → List·Memᴰ (idOf r) (idsListed w ask ps)
+  unfolding idsListed
   found-has [] p i m = absurd (List·Memᴰ·not-nil i)
   found-has (k ∷ ps) p i {r} m =
       ⊎-elim
       (λ (e : p ≡ k).
-      Memᴰ·append-left (foundIds ps)
+      Memᴰ·append-left (idsListed w ask ps)
       (map-has idOf (listedOf w ask k) (rw e at m)))
       (λ j. Memᴰ·append-right (map idOf (listedOf w ask k)) (found-has ps p j m))
       (List·Memᴰ·cases-cons i)
 
   module _ (sound : Sound (w .store) (w .table)) (fit : FitAsk (timeIn w) (ask .query)) where
     ids : List ℕ
-    ids = foundIds (phasesNow w ask)
+    ids = idsListed w ask (phasesNow w ask)
 
     inside : List ℕ
     inside = map idOf (passing (isInside (ask .query)) (recordsIn w))

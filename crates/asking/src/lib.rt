@@ -11,12 +11,15 @@ ghost use Rattle.records.specs.Records.{recordsOf};
 ghost use Rattle.records.specs.Words.{words};
 ghost use Rattle.ledger.specs.declared.Answer.the-variants.{Listed};
 ghost use Rattle.asking.specs.Asking.{phasesNow, GivesList};
-ghost use Rattle.asking.specs.Counted.{CanAsk, CanAskAll, CanAskIn, CanAskFirst, settledByRoom, CanChooseIn, CanReadIn, ReadIn, CanAdd, CountedTogether, CountedIn, CountedOver};
+ghost use Rattle.asking.specs.Counted.{CanAsk, CanAskAll, CanAskIn, settledByRoom, CanChooseIn, CanReadIn, ReadIn, CanAdd, CountedTogether, CountedIn, CanAskAlso, CountedAlso, CountedOver};
 use grid::Query;
 use ledger::Answer;
 use ledger::Ask;
 use ledger::Refusal;
 use reading::Reading;
+
+// Places for the ids that an ask lists: each live phase lists no more floats than can be held, and reading wants one place more.
+const IDS: usize = rows::SLOTS * records::CAPACITY + 1;
 
 // What asking in a phase, or in several, gives back: what was read there, and the rounds of choosing. How many cells were read is only in the reading.
 pub struct Counts {
@@ -77,59 +80,75 @@ fn choose_in(table: &[i16], p: usize, ask: Ask, marks: &mut [u8; grid::CELLS]) -
     choosing::choose::choose(table, slot, number, view, marks)
 }
 
-// Any set of cells of a live phase read.
+// Any set of cells of a live phase read, the ids listed to the front of `ids`.
 fn read_in(
     store: &[i32],
     p: usize,
     query: Query,
     marks: &[u8; grid::CELLS],
-    found: &mut [u8],
+    ids: &mut [u16],
 ) -> Reading
-    requires { ⌜ CanReadIn (now store) query (now found) ⌝ }
-    ensures { λ r. ⌜ ReadIn (now (marks .entry)) p query (recordsOf (now (store .entry))) (now (found .entry)) (now (found .exit)) r ⌝ }
+    requires { ⌜ CanReadIn (now store) query (now ids) ⌝ }
+    ensures { λ r. ⌜ ReadIn (now (marks .entry)) p query (recordsOf (now (store .entry))) (now (ids .exit)) r ⌝ }
 {
-    reading::read_cells(store, rows::slot_of(p), marks, query, found)
+    reading::read_cells(store, rows::slot_of(p), marks, query, ids)
 }
 
 // An ask in one live phase: cells chosen by the rows of its slot, and read.
-fn ask_in(store: &[i32], table: &[i16], p: usize, ask: Ask, found: &mut [u8]) -> Counts
-    requires { ⌜ CanAskIn (words (now store) (now table)) ask p (now found) ⌝ }
-    ensures { λ r. ⌜ CountedIn (words (now (store .entry)) (now (table .entry))) ask p (now (found .entry)) (now (found .exit)) r ⌝ }
+fn ask_in(store: &[i32], table: &[i16], p: usize, ask: Ask, ids: &mut [u16]) -> Counts
+    requires { ⌜ CanAskIn (words (now store) (now table)) ask p (now ids) ⌝ }
+    ensures { λ r. ⌜ CountedIn (words (now (store .entry)) (now (table .entry))) ask p (now (ids .exit)) r ⌝ }
 {
     let mut marks = [0u8; grid::CELLS];
     let rounds = choose_in(table, p, ask, &mut marks);
-    let read = read_in(store, p, ask.query, &marks, found);
+    let read = read_in(store, p, ask.query, &marks, ids);
     Counts { read, rounds }
 }
 
+// An ask in one live phase more: the ids that it lists stand behind those that were listed before.
+fn ask_also_in(
+    store: &[i32],
+    table: &[i16],
+    p: usize,
+    ask: Ask,
+    before: Counts,
+    ids: &mut [u16],
+) -> Counts
+    requires { ⌜ CanAskAlso (words (now store) (now table)) ask p before (now ids) ⌝ }
+    ensures { λ r. ⌜ CountedAlso (words (now (store .entry)) (now (table .entry))) ask p before (now (ids .entry)) (now (ids .exit)) r ⌝ }
+{
+    let n = before.ids_needed();
+    before.plus(ask_in(store, table, p, ask, &mut ids[n..]))
+}
+
 // An ask in each live phase, newest first.
-fn ask_in_all(store: &[i32], table: &[i16], ask: Ask, found: &mut [u8]) -> Counts
-    requires { ⌜ CanAskAll (words (now store) (now table)) ask (now found) ⌝ }
-    ensures { λ r. ⌜ CountedOver (words (now (store .entry)) (now (table .entry))) ask (phasesNow (words (now (store .entry)) (now (table .entry))) ask) (now (found .entry)) (now (found .exit)) r ⌝ }
+fn ask_in_all(store: &[i32], table: &[i16], ask: Ask, ids: &mut [u16]) -> Counts
+    requires { ⌜ CanAskAll (words (now store) (now table)) ask (now ids) ⌝ }
+    ensures { λ r. ⌜ CountedOver (words (now (store .entry)) (now (table .entry))) ask (phasesNow (words (now (store .entry)) (now (table .entry))) ask) (now (ids .exit)) r ⌝ }
 {
     let c = rows::phase_of(records::now_of(store));
-    let newest = ask_in(store, table, c, ask, found);
+    let newest = ask_in(store, table, c, ask, ids);
     if c < 1 {
         return newest;
     }
-    let two = newest.plus(ask_in(store, table, c - 1, ask, found));
+    let two = ask_also_in(store, table, c - 1, ask, newest, ids);
     if c < 2 {
         return two;
     }
-    two.plus(ask_in(store, table, c - 2, ask, found))
+    ask_also_in(store, table, c - 2, ask, two, ids)
 }
 
-// An ask whose checks up to 4 are passed, with no id marked yet. Nothing is written to the list before it is known to have room.
-fn ask_with(store: &[i32], table: &[i16], list: &mut [u16], ask: Ask, found: &mut [u8]) -> Answer
-    requires { ⌜ CanAskFirst (words (now store) (now table)) ask (now found) ⌝ }
+// An ask whose checks up to 4 are passed, with places for the ids it lists. Nothing is written to the list before it is known to have room.
+fn ask_with(store: &[i32], table: &[i16], list: &mut [u16], ask: Ask, ids: &mut [u16]) -> Answer
+    requires { ⌜ CanAskAll (words (now store) (now table)) ask (now ids) ⌝ }
     ensures { λ r. ⌜ GivesList (settledByRoom (words (now (store .entry)) (now (table .entry))) ask (now (list .entry))) r (now (list .exit)) ⌝ }
 {
-    let counts = ask_in_all(store, table, ask, found);
+    let counts = ask_in_all(store, table, ask, ids);
     let needed = counts.ids_needed();
     if list.len() < needed {
         return Answer::Refused(Refusal::ListTooShort(needed));
     }
-    reading::rising(found, list);
+    reading::rising(&ids[..needed], list);
     counts.answer()
 }
 
@@ -138,6 +157,6 @@ pub fn ask_sound(store: &[i32], table: &[i16], list: &mut [u16], ask: Ask) -> An
     requires { ⌜ CanAsk (words (now store) (now table)) ask ⌝ }
     ensures { λ r. ⌜ GivesList (settledByRoom (words (now (store .entry)) (now (table .entry))) ask (now (list .entry))) r (now (list .exit)) ⌝ }
 {
-    let mut found = [0u8; grid::ID_MARKS];
-    ask_with(store, table, list, ask, &mut found)
+    let mut ids = [0u16; IDS];
+    ask_with(store, table, list, ask, &mut ids)
 }

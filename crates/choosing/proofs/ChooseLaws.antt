@@ -16,16 +16,19 @@ use Rattle.rows.specs.declared.Row.{Row}
 use Rattle.rows.proofs.RowLaws.{bounds-valid}
 use Rattle.methods.specs.Reach.{blockOf, cellsOf}
 use Rattle.methods.specs.Aims.{Aim}
-use Rattle.methods.specs.Methods.{Rows, Found, missing, found, cellsFound, unlessMissing, boundsIn, expandedBlock, naiveBlock, Search, iterated, mostRounds, reached, choice}
+use Rattle.methods.specs.Fair.{Fair}
+use Rattle.methods.specs.Methods.{Rows, Found, missing, found, cellsFound, unlessMissing, boundsIn, expandedBlock, naiveBlock, Search, iterated, mostRounds, choice}
 use Rattle.methods.specs.Slots.{rowsOfSlot}
 use Rattle.methods.specs.Marks.{withCells}
 use Rattle.choosing.specs.Bounds.{IsSlot, BlockOnGrid}
 use Rattle.choosing.specs.Choose.{ChosenBy, FoundIs, SearchIs}
 use Rattle.choosing.specs.Mark.{noMarks, Marked}
+use Rattle.choosing.specs.Reached.{places, nonempty, meeting}
 use Rattle.methods.specs.declared.Block.{Block}
 use Rattle.choosing.specs.declared.FoundBlock.{FoundBlock}
 use Rattle.methods.proofs.Nesting.{all-valid}
 use Rattle.choosing.proofs.MarkLaws.{marked-none}
+use Rattle.choosing.proofs.ReachedLaws.{optimal-marks}
 use Rattle.choosing.proofs.BoundsLaws.{slot-valid}
 use Rattle.methods.proofs.Rounds.{none-is, same-is, onward-is}
 
@@ -133,20 +136,31 @@ module _ (table : List ℤ) (slot : ℕ) (aim : Aim) (b : Block) (naive : naiveB
 
   pub iterative-chosen :
       {method : ℕ} {marks : List ℕ} {rounds : ℕ}
-      → method ≡ 2
+      → method ≢ 0
+      → method ≢ 1
+      → method < 3
       → Marked before (cellsFound (iterated mostRounds (rowsOfSlot table slot) aim emptyRow b 0 .block)) marks
       → rounds ≡ iterated mostRounds (rowsOfSlot table slot) aim emptyRow b 0 .rounds
       → ChosenBy method table slot aim marks rounds
   unfolding choice noMarks
-  iterative-chosen e m r =
+  iterative-chosen {method} x y z m r =
+      let e : method ≡ 2 = omega arith in
       rw e (record { marks-are = rw naive (rw clear at (m .marks-are)); rounds-are = rw naive r })
 
-  pub optimal-chosen : {method : ℕ} {marks : List ℕ}
-      → method ≢ 0 → method ≢ 1 → method ≢ 2 → Marked before (reached (rowsOfSlot table slot) aim (cellsOf b)) marks → ChosenBy method table slot aim marks 0
-  unfolding choice noMarks
-  optimal-chosen {method} x y z m =
-      let n : method ≡ suc (suc (suc (method - 3))) = omega arith in
-      rw n (record { marks-are = rw naive (rw clear at (m .marks-are)); rounds-are = refl })
+-- the optimal method, where no mark is set before: the cells that are reached, of all cells of the grid
+pub optimal-chosen :
+    {table : List ℤ} {slot : ℕ} (aim : Aim) {method : ℕ} {before marks : List ℕ}
+    → IsSlot table slot
+    → Fair aim
+    → 3 ≤ method
+    → before ≡ noMarks
+    → Marked before (meeting (rowsOfSlot table slot) aim (nonempty (rowsOfSlot table slot) places)) marks
+    → ChosenBy method table slot aim marks 0
+unfolding choice noMarks
+optimal-chosen {table} {slot} aim {method} s fair h clear m =
+    let rows = rowsOfSlot table slot in
+    let n : method ≡ suc (suc (suc (method - 3))) = omega arith in
+    rw n (record { marks-are = rw clear at (m .marks-are) ∙ optimal-marks rows (slot-valid s) aim fair; rounds-are = refl })
 
 -- where bounds are missing, no method chooses a cell
 pub none-chosen : (method : ℕ) (table : List ℤ) (slot : ℕ) (aim : Aim) {marks : List ℕ} → naiveBlock (rowsOfSlot table slot) aim ≡ missing → marks ≡ noMarks → ChosenBy method table slot aim marks 0

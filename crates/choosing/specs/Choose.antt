@@ -2,11 +2,12 @@
 -- Assumes nothing.
 use mathlib.Core.Path.{_≡_}
 use mathlib.Core.List.{List}
-use Prim.Native.Nat.{ℕ}
+use Prim.Native.Nat.{ℕ, _<_}
 use lib.IntN.{ℤ}
 use lib.ListN.{length}
 use Rattle.grid.specs.Units.{cells}
 use Rattle.methods.specs.Aims.{Aim, aimOf}
+use Rattle.methods.specs.Fair.{Fair}
 use Rattle.methods.specs.Methods.{Found, found, unlessMissing, naiveBlock, Search, choice}
 use Rattle.methods.specs.Slots.{rowsOfSlot}
 use Rattle.methods.specs.Marks.{marksOf}
@@ -20,15 +21,24 @@ use Rattle.choosing.specs.declared.Searched.{Searched}
 
 -- ---- what is asked
 
--- to choose, and to choose where the naive block is found and no mark is set yet
+-- to choose; by the optimal method a reached cell lies in the naive block, since the aim is fair
 pub record CanChoose (table : List ℤ) (slot : ℕ) (v : View) (marks : List ℕ) : Type 0 where
   pub of-slot : IsSlot table slot
   pub ask : IsViewAsk v
+  pub fair : Fair (aimOf v)
   pub one-each : length marks ≡ cells
 
-pub record CanChooseWithin (table : List ℤ) (slot : ℕ) (v : View) (naive : Block) (marks : List ℕ) : Type 0 where
+-- to choose by a method that reads a block, where no mark is set yet; and where the naive block is found
+pub record CanChooseBlock (table : List ℤ) (slot method : ℕ) (v : View) (marks : List ℕ) : Type 0 where
+  pub of-slot : IsSlot table slot
+  pub ask : IsViewAsk v
+  pub by-block : method < 3
+  pub none-set : marks ≡ noMarks
+
+pub record CanChooseWithin (table : List ℤ) (slot method : ℕ) (v : View) (naive : Block) (marks : List ℕ) : Type 0 where
   pub from-naive : CanSearch table slot v naive
   pub is-naive : naiveBlock (rowsOfSlot table slot) (aimOf v) ≡ found naive
+  pub by-block : method < 3
   pub none-set : marks ≡ noMarks
 
 -- ---- what is given back

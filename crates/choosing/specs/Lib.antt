@@ -1,3 +1,4 @@
 pub mod Bounds
 pub mod Mark
+pub mod Reached
 pub mod Choose

@@ -39,30 +39,9 @@ pub record CanMarkCell (numbers : List ℕ) (c : Cell) (marks : List ℕ) : Type
   pub on-grid : OnGrid c
   pub one-each : length marks ≡ cells
 
--- ---- the same for what is reached
+-- ---- to search from a block
 
--- to search from a block
 pub record CanSearch (table : List ℤ) (slot : ℕ) (v : View) (b : Block) : Type 0 where
   pub of-slot : IsSlot table slot
   pub ask : IsViewAsk v
   pub block-on : BlockOnGrid b
-
-pub record CanMarkReached (table : List ℤ) (slot : ℕ) (v : View) (b : Block) (marks : List ℕ) : Type 0 where
-  pub from-block : CanSearch table slot v b
-  pub one-each : length marks ≡ cells
-
-pub record CanMarkReachedInRow (numbers : List ℕ) (table : List ℤ) (slot : ℕ) (v : View) (b : Block) (row : ℕ) (marks : List ℕ) : Type 0 where
-  pub curve : IsCurve numbers
-  pub from-block : CanSearch table slot v b
-  pub row-on : row < side
-  pub one-each : length marks ≡ cells
-
-pub record CanTest (numbers : List ℕ) (table : List ℤ) (slot : ℕ) (v : View) (c : Cell) : Type 0 where
-  pub curve : IsCurve numbers
-  pub of-slot : IsSlot table slot
-  pub ask : IsViewAsk v
-  pub on-grid : OnGrid c
-
-pub record CanMarkIfReached (numbers : List ℕ) (table : List ℤ) (slot : ℕ) (v : View) (c : Cell) (marks : List ℕ) : Type 0 where
-  pub to-test : CanTest numbers table slot v c
-  pub one-each : length marks ≡ cells

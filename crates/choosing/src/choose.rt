@@ -3,7 +3,7 @@ ghost use Rattle.rows.specs.Row.{emptyRow};
 ghost use Rattle.methods.specs.Aims.{aimOf};
 ghost use Rattle.methods.specs.Methods.{cellsFound, unlessMissing, expandedBlock, iterated, mostRounds};
 ghost use Rattle.methods.specs.Slots.{rowsOfSlot};
-ghost use Rattle.choosing.specs.Choose.{FoundIs, SearchIs, ChosenBy, CanChoose, CanChooseWithin};
+ghost use Rattle.choosing.specs.Choose.{FoundIs, SearchIs, ChosenBy, CanChoose, CanChooseBlock, CanChooseWithin};
 ghost use Rattle.choosing.specs.Mark.{Marked, CanMarkBlock, CanSearch};
 ghost use Rattle.reaching.specs.Reaching.{CanExpandView};
 use crate::FoundBlock;
@@ -12,7 +12,7 @@ use crate::bounds::block_bounds;
 use crate::bounds::phase_bounds;
 use crate::mark::clear;
 use crate::mark::mark_block;
-use crate::mark::mark_reached;
+use crate::reached::mark_reached;
 use methods::Block;
 use methods::View;
 use reaching::block_of;
@@ -79,7 +79,7 @@ fn search(table: &[i16], slot: usize, view: View, naive: Block) -> Searched
     }
 }
 
-// The choice of a method where the naive block is found, and its rounds: no mark is set yet.
+// The choice of one of the methods that read a block, where the naive block is found, and its rounds: no mark is set yet.
 fn choose_within(
     table: &[i16],
     slot: usize,
@@ -88,7 +88,7 @@ fn choose_within(
     naive: Block,
     marks: &mut [u8],
 ) -> usize
-    requires { ⌜ CanChooseWithin (now table) slot view naive (now marks) ⌝ }
+    requires { ⌜ CanChooseWithin (now table) slot method view naive (now marks) ⌝ }
     ensures { λ r. ⌜ ChosenBy method (now (table .entry)) slot (aimOf view) (now (marks .exit)) r ⌝ }
 {
     if method == 0 {
@@ -100,13 +100,21 @@ fn choose_within(
         mark_found(narrowed, marks);
         return 0;
     }
-    if method == 2 {
-        let s = search(table, slot, view, naive);
-        mark_found(s.found, marks);
-        return s.rounds;
+    let s = search(table, slot, view, naive);
+    mark_found(s.found, marks);
+    s.rounds
+}
+
+// The choice of one of the methods that read a block, and its rounds: no mark is set yet.
+fn choose_block(table: &[i16], slot: usize, method: usize, view: View, marks: &mut [u8]) -> usize
+    requires { ⌜ CanChooseBlock (now table) slot method view (now marks) ⌝ }
+    ensures { λ r. ⌜ ChosenBy method (now (table .entry)) slot (aimOf view) (now (marks .exit)) r ⌝ }
+{
+    let naive = expanded_block(phase_bounds(table, slot), view);
+    if naive.missing {
+        return 0;
     }
-    mark_reached(table, slot, naive, view, marks);
-    0
+    choose_within(table, slot, method, view, naive.block, marks)
 }
 
 // The choice of a method, as marks by curve number, and its rounds. How many cells are marked is not given: cells are counted where they are read.
@@ -116,9 +124,9 @@ pub fn choose(table: &[i16], slot: usize, method: usize, view: View, marks: &mut
     ensures { λ r. ⌜ ChosenBy method (now (table .entry)) slot (aimOf view) (now (marks .exit)) r ⌝ }
 {
     clear(marks);
-    let naive = expanded_block(phase_bounds(table, slot), view);
-    if naive.missing {
-        return 0;
+    if method < 3 {
+        return choose_block(table, slot, method, view, marks);
     }
-    choose_within(table, slot, method, view, naive.block, marks)
+    mark_reached(table, slot, view, marks);
+    0
 }

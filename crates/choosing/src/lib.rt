@@ -3,6 +3,7 @@
 pub mod bounds;
 pub mod choose;
 pub mod mark;
+pub mod reached;
 
 use methods::Block;
 

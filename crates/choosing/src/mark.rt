@@ -4,16 +4,10 @@ ghost use mathlib.Core.List.{[], _∷_};
 ghost use lib.ListN.{length};
 ghost use Rattle.grid.specs.Units.{cells};
 ghost use Rattle.methods.specs.Reach.{columnsOf, cellsOfRow, cellsOf};
-ghost use Rattle.methods.specs.Aims.{aimOf};
-ghost use Rattle.methods.specs.Methods.{isReached, reached};
-ghost use Rattle.methods.specs.Slots.{rowsOfSlot};
 ghost use Rattle.methods.specs.Marks.{withCells};
-ghost use Rattle.choosing.specs.Mark.{noMarks, Marked, CanMarkBlock, CanMarkRow, CanMarkCell, CanMarkReached, CanMarkReachedInRow, CanTest, CanMarkIfReached};
-use crate::bounds::row_of_cell;
+ghost use Rattle.choosing.specs.Mark.{noMarks, Marked, CanMarkBlock, CanMarkRow, CanMarkCell};
 use grid::Cell;
 use methods::Block;
-use methods::View;
-use reaching::cell_meets;
 
 // Every mark taken away.
 pub fn clear(marks: &mut [u8])
@@ -64,85 +58,6 @@ pub fn mark_block(b: Block, marks: &mut [u8])
     let mut row = b.first_row;
     while row <= b.last_row {
         mark_row(&numbers, b, row, marks);
-        row += 1;
-    }
-}
-
-// Whether a cell's row is nonempty and the cell, moved by the row's speeds, meets the rectangle.
-pub fn is_reached(
-    numbers: &[u16; grid::CELLS],
-    table: &[i16],
-    slot: usize,
-    c: Cell,
-    view: View,
-) -> bool
-    requires { ⌜ CanTest (now numbers) (now table) slot view c ⌝ }
-    ensures { λ r. ⌜ r ≡ isReached (rowsOfSlot (now (table .entry)) slot) (aimOf view) c ⌝ }
-{
-    let row = row_of_cell(numbers, table, slot, c);
-    if row.is_empty() {
-        return false;
-    }
-    cell_meets(view, c, row)
-}
-
-// Marks a cell if it is reached.
-fn mark_if_reached(
-    numbers: &[u16; grid::CELLS],
-    table: &[i16],
-    slot: usize,
-    c: Cell,
-    view: View,
-    marks: &mut [u8],
-)
-    requires { ⌜ CanMarkIfReached (now numbers) (now table) slot view c (now marks) ⌝ }
-    ensures { λ u. ⌜ Marked (now (marks .entry)) (reached (rowsOfSlot (now (table .entry)) slot) (aimOf view) (c ∷ [])) (now (marks .exit)) ⌝ }
-{
-    if !is_reached(numbers, table, slot, c, view) {
-        return;
-    }
-    mark_cell(numbers, c, marks);
-}
-
-// Marks those of a block's cells of one row that are reached.
-fn mark_reached_in_row(
-    numbers: &[u16; grid::CELLS],
-    table: &[i16],
-    slot: usize,
-    b: Block,
-    row: usize,
-    view: View,
-    marks: &mut [u8],
-)
-    requires { ⌜ CanMarkReachedInRow (now numbers) (now table) slot view b row (now marks) ⌝ }
-    ensures { λ u. ⌜ Marked (now (marks .entry)) (reached (rowsOfSlot (now (table .entry)) slot) (aimOf view) (cellsOfRow row (b .«first_column») (columnsOf b))) (now (marks .exit)) ⌝ }
-{
-    let mut column = b.first_column;
-    while column < b.last_column + 1 {
-        mark_if_reached(
-            numbers,
-            table,
-            slot,
-            Cell {
-                column: column,
-                row: row,
-            },
-            view,
-            marks,
-        );
-        column += 1;
-    }
-}
-
-// Marks those of a block's cells that are reached.
-pub fn mark_reached(table: &[i16], slot: usize, b: Block, view: View, marks: &mut [u8])
-    requires { ⌜ CanMarkReached (now table) slot view b (now marks) ⌝ }
-    ensures { λ u. ⌜ Marked (now (marks .entry)) (reached (rowsOfSlot (now (table .entry)) slot) (aimOf view) (cellsOf b)) (now (marks .exit)) ⌝ }
-{
-    let numbers = grid::curve_numbers();
-    let mut row = b.first_row;
-    while row < b.last_row + 1 {
-        mark_reached_in_row(&numbers, table, slot, b, row, view, marks);
         row += 1;
     }
 }

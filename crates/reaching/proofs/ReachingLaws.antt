@@ -1,21 +1,21 @@
 -- What the code of reach relies on: both signs of d as one formula with least and greatest exchanged, the ends of a column as they are tested,
 -- and numbers of an ask and of a valid row are small.
 -- Assumes nothing.
-use mathlib.Core.Path.{_≡_, sym, ap, ap₂, _∙_}
-use mathlib.Core.Bool.{Bool, true, false, _&&_}
+use mathlib.Core.Path.{_≡_, refl, sym, ap, ap₂, _∙_}
+use mathlib.Core.Bool.{Bool, true, false, _&&_, _||_}
 use mathlib.Core.Logic.{⊎-elim}
 use Prim.Native.Nat.{ℕ, suc, _+_, _-_, _*_, _≤_, _<_, _^_}
 use native.Mathlib.Omega.{arith}
-use borrow.Author.Tests.{eq-eqb, ne-eqb}
+use lib.Dec.{eqb}
 use lib.IntN.{ℤ, pos, negsuc, negℤ, natAbs, _-ℤ_, _*ℤ_}
 use lib.Signed.{leZ, nonNeg, mag}
 use mir.Syntax.{w16, w64}
 use mir.Val.{hbits, SFits}
 use Rattle.ints.proofs.Parts.{signed, abs, one-part, sub, true-false}
-use Rattle.ints.proofs.Machine.{back, fits, held, both, neither, tested₁}
+use Rattle.ints.proofs.Machine.{back, fits, held, tested₁}
 use Rattle.ints.proofs.Truth.{and-left, and-right}
 use Rattle.grid.specs.Units.{side, cellSize, lastPosition, speedLimit, lastTime}
-use Rattle.grid.specs.Places.{cellSpan, notBelow, notAbove}
+use Rattle.grid.specs.Places.{endAt, cellSpan, notBelow, notAbove}
 use Rattle.grid.specs.Reports.{isPosition}
 use Rattle.grid.specs.declared.Cell.{Cell}
 use Rattle.grid.specs.declared.Range.{Range}
@@ -24,7 +24,7 @@ use Rattle.rows.specs.Row.{validRow}
 use Rattle.rows.specs.Phases.{referenceTime, sinceReference}
 use Rattle.rows.specs.declared.Row.{Row}
 use Rattle.rows.proofs.RowLaws.{Ranged, valid-cases}
-use Rattle.methods.specs.Reach.{expandedRange, expandedRect, aroundRanges, expandedWindow, movedSpan, meets, movedAround, movedAroundMeets}
+use Rattle.methods.specs.Reach.{expandedRange, expandedRect, aroundRanges, expandedWindow, movedSpan, meets, movedCellMeets, movedAround, movedAroundMeets}
 use Rattle.methods.specs.Slices.{earliest, latest}
 use Rattle.reaching.specs.Reaching.{IsAsk, SmallAxis, CanCount}
 use Rattle.methods.specs.declared.Slice.{Slice}
@@ -50,27 +50,28 @@ expanded-backward r l g (negsuc k) e = sym (expanded-is r l g (negsuc k))
 
 -- ---- the ends of a column, tested as the code does: r is what a call gave back
 
-pub no-low-end : (i : ℕ) (z : ℤ) → i ≡ 0 → true ≡ notBelow (cellSpan i .low) z
-unfolding cellSpan
-no-low-end i z e = rw (eq-eqb i 0 e)
+low-end-test : (first : Bool) (e z : ℤ) → first || leZ e z ≡ notBelow (endAt first e) z
+low-end-test true e z = refl
+low-end-test false e z = refl
 
-pub low-end : (i : ℕ) (r z : ℤ) → (i ≡ 0 → ⊥) → mag r < 2 ^ hbits w64 → r ≡ pos (cellSize * i) → mag z < 2 ^ hbits w64 → leZ (back w64 r) (back w64 z) ≡ notBelow (cellSpan i .low) z
-unfolding cellSpan
-low-end i r z n h e k = rw (ne-eqb i 0 n) (ap₂ leZ (held w64 r h ∙ e) (held w64 z k))
+high-end-test : (last : Bool) (e z : ℤ) → last || leZ z e ≡ notAbove (endAt last e) z
+high-end-test true e z = refl
+high-end-test false e z = refl
 
-pub no-high-end : (i : ℕ) (z : ℤ) → i ≡ side - 1 → true ≡ notAbove (cellSpan i .high) z
+pub low-end : (i : ℕ) (r z : ℤ) → mag r < 2 ^ hbits w64 → r ≡ pos (cellSize * i) → mag z < 2 ^ hbits w64 → eqb i 0 || leZ (back w64 r) (back w64 z) ≡ notBelow (cellSpan i .low) z
 unfolding cellSpan
-no-high-end i z e = rw (eq-eqb i (side - 1) e)
+low-end i r z h e k = ap (λ (t : Bool). eqb i 0 || t) (ap₂ leZ (held w64 r h ∙ e) (held w64 z k)) ∙ low-end-test (eqb i 0) (pos (cellSize * i)) z
 
 pub high-end :
     (i : ℕ) (r z : ℤ)
-    → (i ≡ side - 1 → ⊥)
     → mag r < 2 ^ hbits w64
     → r ≡ pos (cellSize * i + (cellSize - 1))
     → mag z < 2 ^ hbits w64
-    → leZ (back w64 z) (back w64 r) ≡ notAbove (cellSpan i .high) z
+    → eqb i (side - 1) || leZ (back w64 z) (back w64 r) ≡ notAbove (cellSpan i .high) z
 unfolding cellSpan
-high-end i r z n h e k = rw (ne-eqb i (side - 1) n) (ap₂ leZ (held w64 z k) (held w64 r h ∙ e))
+high-end i r z h e k =
+    ap (λ (t : Bool). eqb i (side - 1) || t) (ap₂ leZ (held w64 z k) (held w64 r h ∙ e))
+    ∙ high-end-test (eqb i (side - 1)) (pos (cellSize * i + (cellSize - 1))) z
 
 -- ---- small numbers
 
@@ -169,7 +170,7 @@ pub expanded-called :
     → r ≡ expandedRange range l g d
 expanded-called range = axis-called (expandedRange range)
 
-pub meets-called :
+meets-called :
     (i : ℕ) (range : Range) (r : Bool) (l g d : ℤ)
     → r ≡ meets (movedSpan (cellSpan i) (back w16 l) (back w16 g) (back w64 d)) range
     → mag l < 2 ^ hbits w16
@@ -178,25 +179,31 @@ pub meets-called :
     → r ≡ meets (movedSpan (cellSpan i) l g d) range
 meets-called i range = axis-called (λ (l g d : ℤ). meets (movedSpan (cellSpan i) l g d) range)
 
--- the two tests of a column against a range, as calls gave them back
-module _ (i : ℕ) (range : Range) (s : Bool) where
-  pub column-both :
-      (t : Bool)
-      → s ≡ true
-      → s ≡ notBelow (cellSpan i .low) (back w64 (range .high))
-      → mag (range .high) < 2 ^ hbits w64
-      → t ≡ notAbove (cellSpan i .high) (back w64 (range .low))
-      → mag (range .low) < 2 ^ hbits w64
-      → t ≡ notBelow (cellSpan i .low) (range .high) && notAbove (cellSpan i .high) (range .low)
-  column-both t taken p h q k =
-      both s t _ _ taken (tested₁ w64 (notBelow (cellSpan i .low)) s (range .high) p h) (tested₁ w64 (notAbove (cellSpan i .high)) t (range .low) q k)
+-- the tests of both axes of a timeslice, as calls gave them back
+pub slice-both :
+    (s : Slice) (c : Cell) (row : Row) (r t : Bool)
+    → r ≡ meets (movedSpan (cellSpan (c .column)) (back w16 (row .«least_vx»)) (back w16 (row .«greatest_vx»)) (back w64 (s .d))) (s .rect .x)
+    → mag (row .«least_vx») < 2 ^ hbits w16
+    → mag (row .«greatest_vx») < 2 ^ hbits w16
+    → t ≡ meets (movedSpan (cellSpan (c .row)) (back w16 (row .«least_vy»)) (back w16 (row .«greatest_vy»)) (back w64 (s .d))) (s .rect .y)
+    → mag (row .«least_vy») < 2 ^ hbits w16
+    → mag (row .«greatest_vy») < 2 ^ hbits w16
+    → mag (s .d) < 2 ^ hbits w64
+    → r && t ≡ movedCellMeets s c row
+unfolding movedCellMeets
+slice-both s c row r t x lx gx y ly gy d =
+    ap₂ _&&_ (meets-called (c .column) (s .rect .x) r _ _ (s .d) x lx gx d) (meets-called (c .row) (s .rect .y) t _ _ (s .d) y ly gy d)
 
-  pub column-neither :
-      s ≡ false
-      → s ≡ notBelow (cellSpan i .low) (back w64 (range .high))
-      → mag (range .high) < 2 ^ hbits w64
-      → s ≡ notBelow (cellSpan i .low) (range .high) && notAbove (cellSpan i .high) (range .low)
-  column-neither failed p h = neither s _ (notAbove (cellSpan i .high) (range .low)) failed (tested₁ w64 (notBelow (cellSpan i .low)) s (range .high) p h)
+-- the two tests of a column against a range, as calls gave them back
+pub column-both :
+    (i : ℕ) (range : Range) (s t : Bool)
+    → s ≡ notBelow (cellSpan i .low) (back w64 (range .high))
+    → mag (range .high) < 2 ^ hbits w64
+    → t ≡ notAbove (cellSpan i .high) (back w64 (range .low))
+    → mag (range .low) < 2 ^ hbits w64
+    → s && t ≡ notBelow (cellSpan i .low) (range .high) && notAbove (cellSpan i .high) (range .low)
+column-both i range s t p h q k =
+    ap₂ _&&_ (tested₁ w64 (notBelow (cellSpan i .low)) s (range .high) p h) (tested₁ w64 (notAbove (cellSpan i .high)) t (range .low) q k)
 
 -- a moved column meets a range where it meets the expanded one
 pub meets-moved :
@@ -233,21 +240,13 @@ module _ (w : Window) (c : Cell) (row : Row) (reach : Rect) (is : reach ≡ expa
   unfolding expandedWindow expandedRect
   y-is = ap (λ (q : Rect). q .y) is
 
-  pub window-neither :
-      r ≡ notBelow (cellSpan (c .column) .low) (reach .x .high) && notAbove (cellSpan (c .column) .high) (reach .x .low)
-      → r ≡ false
-      → r ≡ movedAroundMeets w c row
-  unfolding movedAroundMeets
-  window-neither e failed = neither r _ _ failed (moved-both (c .column) _ _ w (w .rect .x) (reach .x) r e x-is)
-
   pub window-both :
       (t : Bool)
       → r ≡ notBelow (cellSpan (c .column) .low) (reach .x .high) && notAbove (cellSpan (c .column) .high) (reach .x .low)
-      → r ≡ true
       → t ≡ notBelow (cellSpan (c .row) .low) (reach .y .high) && notAbove (cellSpan (c .row) .high) (reach .y .low)
-      → t ≡ movedAroundMeets w c row
+      → r && t ≡ movedAroundMeets w c row
   unfolding movedAroundMeets
-  window-both t e taken f =
-      both r t _ _ taken
+  window-both t e f =
+      ap₂ _&&_
       (moved-both (c .column) _ _ w (w .rect .x) (reach .x) r e x-is)
       (moved-both (c .row) _ _ w (w .rect .y) (reach .y) t f y-is)

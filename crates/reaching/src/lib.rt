@@ -118,7 +118,7 @@ fn slice_meets(s: Slice, c: Cell, row: Row) -> bool
     ensures { λ r. ⌜ r ≡ movedCellMeets s c row ⌝ }
 {
     moved_meets(c.column, row.least_vx, row.greatest_vx, s.rect.x, s.d)
-        && moved_meets(c.row, row.least_vy, row.greatest_vy, s.rect.y, s.d)
+        & moved_meets(c.row, row.least_vy, row.greatest_vy, s.rect.y, s.d)
 }
 
 // Whether a cell, moved by its row's speeds, meets the rectangle.
@@ -144,15 +144,13 @@ pub fn block_of(q: Rect) -> Block
     }
 }
 
-// Whether column i, or row i, starts at z or below. The first has no low end.
+// Whether column i, or row i, starts at z or below. The first has no low end. Here and below no test waits for another: which cells are reached goes
+// from cell to cell without a pattern, and a branch on it would be guessed wrong.
 fn starts_by(i: usize, z: i64) -> bool
     requires { ⌜ i < side ⌝ }
     ensures { λ r. ⌜ r ≡ notBelow (cellSpan i .low) z ⌝ }
 {
-    if i == 0 {
-        return true;
-    }
-    whole(grid::CELL_SIZE * i) <= z
+    (i == 0) | (whole(grid::CELL_SIZE * i) <= z)
 }
 
 // Whether column i, or row i, ends at z or above. The last has no high end.
@@ -160,10 +158,7 @@ fn ends_from(i: usize, z: i64) -> bool
     requires { ⌜ i < side ⌝ }
     ensures { λ r. ⌜ r ≡ notAbove (cellSpan i .high) z ⌝ }
 {
-    if i == grid::SIDE - 1 {
-        return true;
-    }
-    z <= whole(grid::CELL_SIZE * i + (grid::CELL_SIZE - 1))
+    (i == grid::SIDE - 1) | (z <= whole(grid::CELL_SIZE * i + (grid::CELL_SIZE - 1)))
 }
 
 // Whether column i, or row i, shares a position with a range.
@@ -171,7 +166,7 @@ fn column_meets(i: usize, range: Range) -> bool
     requires { ⌜ i < side ⌝ }
     ensures { λ r. ⌜ r ≡ notBelow (cellSpan i .low) (range .high) && notAbove (cellSpan i .high) (range .low) ⌝ }
 {
-    starts_by(i, range.high) && ends_from(i, range.low)
+    starts_by(i, range.high) & ends_from(i, range.low)
 }
 
 // Whether column i, or row i, moved by speeds from least to greatest over d, meets a range: it meets the expanded range where it is.

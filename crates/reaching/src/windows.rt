@@ -61,5 +61,5 @@ pub fn window_meets(w: Window, c: Cell, row: Row) -> bool
     ensures { λ r. ⌜ r ≡ movedAroundMeets w c row ⌝ }
 {
     let reach = expanded_window(w, row);
-    column_meets(c.column, reach.x) && column_meets(c.row, reach.y)
+    column_meets(c.column, reach.x) & column_meets(c.row, reach.y)
 }

@@ -2,6 +2,6 @@ pub mod RunsSortedLaws
 pub mod RunsLaws
 pub mod TalliesLaws
 pub mod IdsLaws
-pub mod ReadingLeftLaws
+pub mod IdsPutLaws
 pub mod ReadingUsefulLaws
 pub mod ReadingLaws

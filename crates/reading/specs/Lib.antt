@@ -1,5 +1,6 @@
 pub mod Runs
-pub mod Tallies
+pub mod Timeslices
 pub mod Reading
+pub mod Tallies
 pub mod Ids
 pub mod Needs

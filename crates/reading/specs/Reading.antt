@@ -3,14 +3,14 @@
 -- Assumes nothing.
 use mathlib.Core.Path.{_≡_}
 use mathlib.Core.Bool.{Bool, cond, not, _&&_}
-use mathlib.Core.List.{List, [], _∷_}
+use mathlib.Core.List.{List, [], _∷_, map}
 use Prim.Native.Nat.{ℕ, zero, suc, _+_, _≤_, _<_}
 use lib.Dec.{eqb}
 use lib.IntN.{ℤ}
 use lib.ListN.{length, getD, set}
 use Rattle.ints.specs.Whole.{up, eqZ}
 use Rattle.ints.specs.Lists.{passing, some}
-use Rattle.grid.specs.Units.{cells, idMarks}
+use Rattle.grid.specs.Units.{cells, capacity}
 use Rattle.grid.specs.Small.{SmallQuery}
 use Rattle.grid.specs.declared.Query.{Query}
 use Rattle.grid.specs.declared.Report.{Report}
@@ -51,12 +51,17 @@ unfoldable pub withIds : List ℕ → List Record → List ℕ
 withIds found [] = found
 withIds found (r ∷ rs) = withIds (set found (up (r .report .id)) 1) rs
 
--- what reading asks: a sound store's words, one of the three slots, a mark for each cell and for each id, and a query whose numbers are small
-pub record CanReadCells (s : List ℤ) (slot : ℕ) (marks : List ℕ) (query : Query) (found : List ℕ) : Type 0 where
+-- the ids of some records, as they stand
+abbrev pub idsOf : List Record → List ℕ
+idsOf = map (λ r. up (r .report .id))
+
+-- what reading asks: a sound store's words, one of the three slots, a mark for each cell, a place for each float held and one more, which is written over,
+-- and a query whose numbers are small
+pub record CanReadCells (s : List ℤ) (slot : ℕ) (marks : List ℕ) (query : Query) (ids : List ℕ) : Type 0 where
   pub store : IsStore s
   pub one-of-three : slot < 3
   pub one-each : length marks ≡ cells
-  pub all-ids : length found ≡ idMarks
+  pub room : capacity < length ids
   pub small : SmallQuery query
 
 -- what reading gives back: floats listed, cells read, useful cells

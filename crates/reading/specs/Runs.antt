@@ -1,20 +1,20 @@
--- Places in a list of records sorted by key, the records between two keys, and what the functions of runs.rt ask and give.
+-- Places in a list of records sorted by key, the run of records that a slot has, and what the functions of runs.rt ask and give.
 -- Assumes nothing.
 use mathlib.Core.Path.{_≡_}
-use mathlib.Core.Bool.{Bool, true}
+use mathlib.Core.Bool.{Bool}
 use mathlib.Core.List.{List}
-use Prim.Native.Nat.{ℕ, _-_, _/_, _≤_}
+use Prim.Native.Nat.{ℕ, suc, _+_, _*_, _/_, _≤_, _<_}
 use lib.IntN.{ℤ, pos}
 use lib.Signed.{leZ}
-use lib.ListN.{length, take, drop}
-use Rattle.ints.specs.Whole.{between}
-use Rattle.ints.specs.Lists.{passing}
+use lib.ListN.{length, getD}
+use Rattle.grid.specs.Units.{capacity}
 use Rattle.records.specs.Records.{recordWords, readRecords, recordsOf}
-use Rattle.records.specs.Order.{lastKey}
+use Rattle.records.specs.Order.{keyAt}
 use Rattle.records.specs.Places.{firstOf}
 use Rattle.records.specs.Soundness.{IsStore}
 use Rattle.records.specs.declared.Record.{Record}
 use Rattle.reading.specs.declared.runs.Run.{Run}
+use Rattle.reading.specs.declared.runs.Part.{Part}
 
 -- before the first record whose key is at least the given one
 abbrev pub isFrom : ℤ → Record → Bool
@@ -23,27 +23,30 @@ isFrom key a = leZ key (a .key)
 abbrev pub firstFrom : ℤ → List Record → ℕ
 firstFrom key = firstOf (isFrom key)
 
--- a store, and a place in it before which every key is smaller
-pub record CanGoOn (s : List ℤ) (key : ℤ) (first : ℕ) : Type 0 where
-  pub store : IsStore s
-  pub not-past : first ≤ firstFrom key (recordsOf s)
+-- the key of record i of a store, where it stands among the words
+abbrev pub keyOf : List ℤ → ℕ → ℤ
+keyOf s i = getD s (recordWords * i + recordWords) (pos 0)
 
 -- the records of some words: as many as there are whole sevens
 abbrev pub recordsIn : List ℤ → List Record
 recordsIn w = readRecords (length w / recordWords) w
 
--- a store, and two keys of it in order
-pub record KeysAsked (s : List ℤ) (low high : ℤ) : Type 0 where
+-- a store, and one of its three slots
+pub record SlotAsked (s : List ℤ) (slot : ℕ) : Type 0 where
   pub store : IsStore s
-  pub ordered : leZ low high ≡ true
-  pub small-key : leZ high (pos lastKey) ≡ true
+  pub one-of-three : slot < 3
 
--- the records between two keys, both included
-abbrev pub betweenKeys : ℤ → ℤ → List Record → List Record
-betweenKeys low high = passing (λ r. between low high (r .key))
+-- the run of a slot's records: from its first key on, up to the first key of the next
+pub record RunOfSlot (s : List ℤ) (slot : ℕ) (run : Run) : Type 0 where
+  pub starts : run .start ≡ firstFrom (keyAt slot 0) (recordsOf s)
+  pub stops : run .stop ≡ firstFrom (keyAt (suc slot) 0) (recordsOf s)
 
--- the words of a store from `start` up to `stop` are those of the records between two keys
-pub record RunIs (s : List ℤ) (low high : ℤ) (run : Run) : Type 0 where
-  pub ordered : run .start ≤ run .stop
-  pub inside : run .stop ≤ length s
-  pub reads : recordsIn (take (run .stop - run .start) (drop (run .start) s)) ≡ betweenKeys low high (recordsOf s)
+-- two records of a store in order, or the same
+pub record PlacesAsked (first stop : ℕ) : Type 0 where
+  pub ordered : first ≤ stop
+  pub few : stop ≤ capacity
+
+-- the words of the records from one up to another, behind record 0
+pub record PartOf (first stop : ℕ) (part : Part) : Type 0 where
+  pub starts : part .start ≡ recordWords * suc first
+  pub stops : part .stop ≡ recordWords * suc stop

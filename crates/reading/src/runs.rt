@@ -1,14 +1,26 @@
-// The run of records between two keys: where the first record from a key on stands, and where the words of the run start and stop.
+// The records of a slot are one run of the sorted store: where the first record from a key on stands, where the run of a slot starts and stops, and which
+// part of the store the words of a run are.
 ghost use mathlib.Core.Path.{_≡_};
 ghost use lib.Signed.{ltZ};
 ghost use Rattle.records.specs.Records.{recordsOf};
 ghost use Rattle.records.specs.Soundness.{IsStore};
-ghost use Rattle.reading.specs.Runs.{firstFrom, CanGoOn, KeysAsked, RunIs};
+ghost use Rattle.reading.specs.Runs.{firstFrom, SlotAsked, RunOfSlot, PlacesAsked, PartOf};
+use grid::CELLS;
 use records::RECORD_WORDS;
 use records::held_of;
+use records::order::key_of;
 
-// Where the words of a run of records start and stop.
+// Keys of a slot.
+const SLOT_KEYS: i32 = CELLS as i32;
+
+// Where a run of records starts and stops, counted in records.
 pub struct Run {
+    pub start: usize,
+    pub stop: usize,
+}
+
+// Where a part of the store starts and stops, counted in words.
+pub struct Part {
     pub start: usize,
     pub stop: usize,
 }
@@ -38,33 +50,27 @@ fn first_from(store: &[i32], key: i32) -> usize
     low
 }
 
-// The same, counted on from `first`, before which every key is smaller. Records between two keys are few and are read anyway, so their keys are looked
-// at one by one.
-fn next_from(store: &[i32], key: i32, first: usize) -> usize
-    requires { ⌜ CanGoOn (now store) key first ⌝ }
-    ensures { λ r. ⌜ r ≡ firstFrom key (recordsOf (now (store .entry))) ⌝ }
+// The records of a slot: from the first with one of its keys up to the first past them.
+pub fn run_of(store: &[i32], slot: usize) -> Run
+    requires { ⌜ SlotAsked (now store) slot ⌝ }
+    ensures { λ r. ⌜ RunOfSlot (now (store .entry)) slot r ⌝ }
 {
-    let held = held_of(store);
-    let mut i = first;
-    while i < held {
-        let k = store[RECORD_WORDS * i + RECORD_WORDS];
-        if !is_below(k, key) {
-            return i;
-        }
-        i += 1;
+    let low = key_of(slot, 0);
+    let start = first_from(store, low);
+    let stop = first_from(store, low + SLOT_KEYS);
+    Run {
+        start: start,
+        stop: stop,
     }
-    i
 }
 
-// The words of the records between two keys, both included.
-pub fn run_between(store: &[i32], low: i32, high: i32) -> Run
-    requires { ⌜ KeysAsked (now store) low high ⌝ }
-    ensures { λ r. ⌜ RunIs (now (store .entry)) low high r ⌝ }
+// The words of the records from one up to another.
+pub fn part_of(first: usize, stop: usize) -> Part
+    requires { ⌜ PlacesAsked first stop ⌝ }
+    ensures { λ p. ⌜ PartOf first stop p ⌝ }
 {
-    let first = first_from(store, low);
-    let next = next_from(store, high + 1, first);
-    Run {
+    Part {
         start: RECORD_WORDS * first + RECORD_WORDS,
-        stop: RECORD_WORDS * next + RECORD_WORDS,
+        stop: RECORD_WORDS * stop + RECORD_WORDS,
     }
 }

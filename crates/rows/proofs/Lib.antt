@@ -2,3 +2,4 @@ pub mod RowLaws
 pub mod PhasesLaws
 pub mod TableLaws
 pub mod TableSlotLaws
+pub mod LanesLaws

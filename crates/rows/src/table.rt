@@ -14,6 +14,10 @@ use crate::ROW_WORDS;
 use crate::Row;
 use crate::SLOT_WORDS;
 use crate::TABLE_WORDS;
+use crate::lanes::LANE_ROWS;
+use crate::lanes::LANES;
+use crate::lanes::fold_block;
+use crate::lanes::join_lanes;
 use crate::phases::slot_of;
 use crate::widen_copy;
 
@@ -86,31 +90,34 @@ pub fn empty_newly_live(table: &mut [i16], earlier: usize, c: usize)
     empty_if_later(table, earlier, c - 2);
 }
 
-// The bounds of all rows of a slot, in one pass.
+// The bounds of all rows of a slot, in one pass: 16 rows at a time are folded into the lanes.
 pub fn slot_bounds(table: &[i16], slot: usize) -> Row
     requires { ⌜ HasSlot (now table) slot ⌝ }
     ensures { λ r. ⌜ r ≡ boundsOf (slotRows (now (table .entry)) slot 0 cells) ⌝ }
 {
-    let mut bounds = Row::empty();
-    let mut number = grid::CELLS;
-    while 0 < number {
-        number -= 1;
-        bounds = Row::read(table, slot, number).join(bounds);
+    let mut least = [Row::EMPTY_LEAST; LANES];
+    let mut greatest = [Row::EMPTY_GREATEST; LANES];
+    let mut number = 0;
+    while number < grid::CELLS {
+        let start = SLOT_WORDS * slot + ROW_WORDS * number;
+        let end = start + LANES;
+        fold_block(&table[start..end], &mut least, &mut greatest);
+        number += LANE_ROWS;
     }
-    bounds
+    join_lanes(&least, &greatest)
 }
 
-// Whether every row of the table is valid, in one pass.
+// Whether every row of the table is valid, in one pass without a branch or an early way out.
 pub fn all_valid(table: &[i16]) -> bool
     requires { ⌜ length (now table) ≡ tableWords ⌝ }
     ensures { λ r. ⌜ r ≡ validTable (now (table .entry)) ⌝ }
 {
+    let mut valid = true;
     let mut k = 0;
     while k < TABLE_WORDS {
-        if !Row::read_from(table, k).is_valid() {
-            return false;
-        }
+        let here = Row::read_from(table, k).is_valid();
+        valid = valid & here;
         k += ROW_WORDS;
     }
-    true
+    valid
 }

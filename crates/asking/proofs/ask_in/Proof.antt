@@ -17,7 +17,7 @@ read-in-requires c κs =
     let h = c .before .before in
     let s = h .before .before .before in
     let a = s .args in
-    can-read (words (a .store .now) (a .table .now)) (a .ask) (s .pre .can-ask) (a .found .now) (s .pre .all-marks)
+    can-read (words (a .store .now) (a .table .now)) (a .ask) (s .pre .can-ask) (a .ids .now) (s .pre .room)
 
 same-length : tie.Need-same-length
 same-length c = search needs
@@ -30,7 +30,7 @@ returns c =
     let a = s .args in
     let w = words (a .store .now) (a .table .now) in
     let store = ask-store w (a .ask) (s .pre .can-ask) in
-    counted w (a .ask) (a .p) store _ (a .found .now) (r .read-in .last .1 .1 .1 .1 .0) (h .choose-in .result) (r .read-in .result)
+    counted w (a .ask) (a .p) store _ (r .read-in .last .1 .1 .1 .1 .0) (h .choose-in .result) (r .read-in .result)
     (h .choose-in .ensures) (r .read-in .ensures)
 
 pub ask-in-spec : {M : Type 1} → statement M

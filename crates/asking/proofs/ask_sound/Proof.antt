@@ -1,8 +1,7 @@
--- `asking::ask_sound` meets its contract: no id is marked at first.
+-- `asking::ask_sound` meets its contract: there are places for the ids of three phases.
 -- Assumes nothing.
 use mathlib.Core.Path.{refl}
 use borrow.Author.Needs.{needs}
-use Rattle.asking.specs.Counted.{noIds}
 use Rattle.asking.proofs.ask_sound.Statement.{statement}
 use Rattle.asking.proofs.ask_sound.Tie as tie
 
@@ -10,8 +9,7 @@ slice-aggregate-ask-with : tie.Need-slice-aggregate-ask-with
 slice-aggregate-ask-with c = refl
 
 ask-with-requires : tie.Need-ask-with-requires
-unfolding noIds
-ask-with-requires c κs = record { can-ask = c .before .before .before .pre; none-marked = refl }
+ask-with-requires c κs = record { can-ask = c .before .before .before .pre; room = search needs }
 
 same-length : tie.Need-same-length
 same-length c = search needs

@@ -17,7 +17,7 @@ choose-requires : tie.Need-choose-requires
 choose-requires c κs =
     let o = c .before .before in
     let a = o .before .before in
-    rw (o .before .slot-of .ensures, o .view-of .ensures) (record { of-slot = a .pre .slot; ask = a .pre .is-ask; one-each = search needs })
+    rw (o .before .slot-of .ensures, o .view-of .ensures) (record { of-slot = a .pre .slot; ask = a .pre .is-ask; fair = a .pre .fair; one-each = search needs })
 
 returns : tie.Need-returns
 returns c =

@@ -16,7 +16,7 @@ read-cells-requires c κs =
       store = a .pre .is-store;
       one-of-three = rw (s .slot-of .ensures) (slot-on (a .args .p));
       one-each = search needs;
-      all-ids = a .pre .all-marks;
+      room = a .pre .room;
       small = a .pre .small;
     }
 
@@ -27,7 +27,7 @@ returns : tie.Need-returns
 returns c =
     let r = c .before .before in
     let slot = r .before .before .before .slot-of .ensures in
-    record { reading-is = rw slot at (r .read-cells .ensures .0); found-are = rw slot at (r .read-cells .ensures .1) }
+    record { reading-is = rw slot at (r .read-cells .ensures .0); ids-are = rw slot at (r .read-cells .ensures .1) }
 
 pub read-in-spec : {M : Type 1} → statement M
 read-in-spec = tie.close (tie.spec slot-of-requires read-cells-requires same-length returns)

@@ -1,7 +1,7 @@
 -- `reaching::column_meets` meets its contract: both ends' tests.
 -- Assumes nothing.
 use borrow.Author.Needs.{needs}
-use Rattle.reaching.proofs.ReachingLaws.{column-both, column-neither}
+use Rattle.reaching.proofs.ReachingLaws.{column-both}
 use Rattle.reaching.proofs.column_meets.Statement.{statement}
 use Rattle.reaching.proofs.column_meets.Tie as tie
 
@@ -14,8 +14,5 @@ ends-from-requires c κs = search needs
 returns : tie.Need-returns
 returns c = search column-both
 
-returns-2 : tie.Need-returns-2
-returns-2 c = search column-neither
-
 pub column-meets-spec : {M : Type 1} → statement M
-column-meets-spec = tie.close (tie.spec starts-by-requires ends-from-requires returns returns-2)
+column-meets-spec = tie.close (tie.spec starts-by-requires ends-from-requires returns)

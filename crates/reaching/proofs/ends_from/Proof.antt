@@ -1,15 +1,12 @@
 -- `reaching::ends_from` meets its contract: the last column has no high end, any other ends 262,143 after its start.
 -- Assumes nothing.
-use Rattle.reaching.proofs.ReachingLaws.{no-high-end, high-end}
+use Rattle.reaching.proofs.ReachingLaws.{high-end}
 use borrow.Author.Needs.{needs}
 use Rattle.reaching.proofs.ends_from.Statement.{statement}
 use Rattle.reaching.proofs.ends_from.Tie as tie
 
-sub-if1 : tie.Need-sub-if1
-sub-if1 c = search needs
-
-returns : tie.Need-returns
-returns c = search no-high-end
+sub-result : tie.Need-sub-result
+sub-result c = search needs
 
 mul-whole : tie.Need-mul-whole
 mul-whole c = search needs
@@ -23,9 +20,9 @@ add-whole c = search needs
 whole-requires : tie.Need-whole-requires
 whole-requires c κs = search needs
 
-returns-2 : tie.Need-returns-2
-returns-2 c = search (high-end, c .before .if1 .left)
+returns : tie.Need-returns
+returns c = search high-end
 
 pub ends-from-spec : {M : Type 1} → statement M
 ends-from-spec =
-    tie.close (tie.spec sub-if1 returns mul-whole sub-whole add-whole whole-requires returns-2)
+    tie.close (tie.spec sub-result mul-whole sub-whole add-whole whole-requires returns)

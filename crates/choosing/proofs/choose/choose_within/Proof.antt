@@ -1,7 +1,7 @@
 -- `choosing::choose::choose_within` meets its contract: each method marks the cells that it chooses.
 -- Assumes nothing.
 use Rattle.choosing.proofs.MarkLaws.{no-marks-length}
-use Rattle.choosing.proofs.ChooseLaws.{call-valid, found-by, marked-by, naive-chosen, semi-naive-chosen, iterative-chosen, optimal-chosen}
+use Rattle.choosing.proofs.ChooseLaws.{call-valid, found-by, marked-by, naive-chosen, semi-naive-chosen, iterative-chosen}
 use borrow.Author.Needs.{needs}
 use Rattle.choosing.proofs.choose.choose_within.Statement.{statement}
 use Rattle.choosing.proofs.choose.choose_within.Tie as tie
@@ -42,15 +42,6 @@ same-length-3 c = search needs
 returns-3 : tie.Need-returns-3
 returns-3 c = search (needs, iterative-chosen, marked-by)
 
-mark-reached-requires : tie.Need-mark-reached-requires
-mark-reached-requires c κs = search (needs, no-marks-length)
-
-same-length-4 : tie.Need-same-length-4
-same-length-4 c = search needs
-
-returns-4 : tie.Need-returns-4
-returns-4 c = search (needs, optimal-chosen)
-
 pub choose-within-spec : {M : Type 1} → statement M
 choose-within-spec =
     tie.close
@@ -66,7 +57,4 @@ choose-within-spec =
     search-requires
     mark-found-requires-2
     same-length-3
-    returns-3
-    mark-reached-requires
-    same-length-4
-    returns-4)
+    returns-3)
