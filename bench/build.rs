@@ -1,17 +1,17 @@
-//! Says by `repeats_asks` whether the linked library has the call of src/inner.rs.
+//! Links the library of src/inner.rs where one lies beside the proved one, and says so
+//! by `asks_in_turn`.
 
 use std::env::var;
 use std::path::Path;
 
-const REPEATS_ASKS: &[u8] = b"float_index_repeat_ask\0";
-
 fn main() {
-    println!("cargo:rustc-check-cfg=cfg(repeats_asks)");
+    println!("cargo:rustc-check-cfg=cfg(asks_in_turn)");
     let folder = var("DEP_CAPI_FOLDER").expect("float_index names the library's folder");
-    let library = Path::new(&folder).join("libcapi.a");
+    let library = Path::new(&folder).join("librepeating.a");
     println!("cargo:rerun-if-changed={}", library.display());
-    let bytes = std::fs::read(library).unwrap_or_default();
-    if bytes.windows(REPEATS_ASKS.len()).any(|name| name == REPEATS_ASKS) {
-        println!("cargo:rustc-cfg=repeats_asks");
+    if library.exists() {
+        println!("cargo:rustc-link-search=native={folder}");
+        println!("cargo:rustc-link-lib=static=repeating");
+        println!("cargo:rustc-cfg=asks_in_turn");
     }
 }

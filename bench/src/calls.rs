@@ -2,9 +2,9 @@
 
 use crate::asks::{asked, HOUR, METHODS, SIDES};
 use crate::fleet::{time_in, Fleet, Speeds, FLEETS, STORES};
-use crate::inner::REPEATED;
+use crate::inner::{joined, ASKS_IN_TURN};
 use crate::names::{ask_name, ASK, SOUNDNESS, WINDOW};
-use crate::row::{Act, Again, Call, Row};
+use crate::row::{Act, Asks, Call, InTurn, Row};
 use crate::twin::{self, At, During, When};
 use buffers::{Words, HELD, NOW};
 use float_index::{Rectangle, Reply, Report, MOST_HELD};
@@ -41,6 +41,8 @@ impl Store {
 struct Stores {
     speeds: Speeds,
     stores: Vec<Store>,
+    /// The words of all of them.
+    joined: Rc<Words>,
 }
 
 impl Stores {
@@ -59,7 +61,9 @@ impl Stores {
             let words = Rc::new(words(&fleet));
             Store { number, fleet, words }
         };
-        Stores { speeds, stores: (0..STORES).map(store).collect() }
+        let stores: Vec<Store> = (0..STORES).map(store).collect();
+        let joined = Rc::new(joined(stores.iter().map(|store| &*store.words)));
+        Stores { speeds, stores, joined }
     }
 
     fn floats(&self) -> usize {
@@ -72,6 +76,7 @@ impl Stores {
             floats: self.floats(),
             speeds: self.speeds,
             calls: self.stores.iter().map(of).collect(),
+            in_turn: None,
         }
     }
 
@@ -88,7 +93,7 @@ impl Stores {
             let base = Rc::clone(&store.words);
             let index: Act = Box::new(move |w, _| index(w, n));
             let twin: Act = Box::new(move |w, _| twin(w, n));
-            Call { base, index, twin, scan: None, again: None }
+            Call { base, index, twin, scan: None }
         })
     }
 
@@ -135,16 +140,21 @@ impl Stores {
 
     /// An ask an hour ahead.
     fn ask(&self, method: usize, side: i32) -> Row {
-        self.row(&ask_name(ASK, method, side), |store| {
+        let row = self.row(&ask_name(ASK, method, side), |store| {
             let (number, q) = (method as i32, asked(side, store.number));
             let t = store.now() + HOUR;
-            let index: Act =
-                Box::new(move |w, list| float_index::ask(&w.store, &w.table, list, number, t, q));
-            let again = REPEATED.map(|repeated| -> Again {
-                Box::new(move |w, list, times| repeated(w, list, times, number, t, q))
-            });
-            Call { again, ..beside(store, index, number, At(t.into()), q) }
-        })
+            beside(store, asking(number, t, q), number, At(t.into()), q)
+        });
+        Row { in_turn: self.in_turn(method as i32, side), ..row }
+    }
+
+    /// The first store's ask, of all stores in turn.
+    fn in_turn(&self, method: i32, side: i32) -> Option<InTurn> {
+        let asks_in_turn = ASKS_IN_TURN?;
+        let all = Rc::clone(&self.joined);
+        let (t, q) = (self.stores[0].now() + HOUR, asked(side, 0));
+        let asks: Asks = Box::new(move |list, turns| asks_in_turn(&all, list, turns, method, t, q));
+        Some(InTurn { asks, last: asking(method, t, q) })
     }
 
     /// A window ask from now on for an hour.
@@ -160,6 +170,11 @@ impl Stores {
     }
 }
 
+/// The index's ask.
+fn asking(method: i32, t: i32, q: Rectangle) -> Act {
+    Box::new(move |w, list| float_index::ask(&w.store, &w.table, list, method, t, q))
+}
+
 /// An ask of the index beside the twin's and a linear scan.
 fn beside(store: &Store, index: Act, method: i32, when: impl When + 'static, q: Rectangle) -> Call {
     Call {
@@ -167,7 +182,6 @@ fn beside(store: &Store, index: Act, method: i32, when: impl When + 'static, q: 
         index,
         twin: Box::new(move |w, list| twin::ask(w, list, method, when, q)),
         scan: Some(Box::new(move |w, list| twin::scan(w, list, when, q))),
-        again: None,
     }
 }
 

@@ -1,7 +1,7 @@
 //! Times of calls on several stores in turn: the index's, the twin's and the others'
 //! one after the other, so that a busy machine disturbs all of them alike.
 
-use crate::row::{Call, Row};
+use crate::row::{Call, InTurn, Row};
 use buffers::Words;
 use float_index::{Reply, MOST_HELD};
 use std::array::from_fn;
@@ -22,7 +22,7 @@ pub struct Times<'a> {
     pub row: &'a Row,
     pub index: f64,
     pub one_store: f64,
-    /// An ask of the first store without its soundness test, where it can be measured.
+    /// An ask without its soundness test, where it can be measured.
     pub inner: Option<f64>,
     pub twin: f64,
     /// One pass over the lent memory: the fastest, and the exact sum.
@@ -39,7 +39,7 @@ impl<'a> Times<'a> {
     fn new(row: &'a Row, sample: Sample) -> Times<'a> {
         let [index, one_store, inner, twin, pass, exact_pass, scan] = sample;
         let first = &row.calls[0];
-        let inner = first.again.as_ref().map(|_| inner);
+        let inner = row.in_turn.as_ref().map(|_| inner);
         let scan = first.scan.as_ref().map(|_| scan);
         Times { row, index, one_store, inner, twin, pass, exact_pass, scan }
     }
@@ -106,14 +106,12 @@ impl Desk {
         times.sum::<f64>() / calls.len() as f64
     }
 
-    /// What each further ask of words takes that are tested once.
-    fn inner(&mut self, call: &Call) -> f64 {
-        let [first, all] = [1, 1 + REPEATS].map(|times| {
-            self.time(call, |call, desk| {
-                call.again.as_ref().map(|again| again(&desk.words, &mut desk.list, times))
-            })
-        });
-        (all - first) / REPEATS as f64
+    /// What an ask takes of stores that are tested already: the mean over the stores in
+    /// turn. The first time is untimed, as above.
+    fn inner(&mut self, row: &Row) -> f64 {
+        let Some(InTurn { asks, .. }) = &row.in_turn else { return 0.0 };
+        let [_, none, once] = [1, 0, 1].map(|turns| microseconds(|| asks(&mut self.list, turns)));
+        (once - none) / row.calls.len() as f64
     }
 
     /// A row's stores in turn once, then the first of them alone.
@@ -125,7 +123,7 @@ impl Desk {
         let exact_pass = self.in_turn(calls, |_, desk| exact_pass(&desk.words));
         let scan = self.in_turn(calls, scan);
         let one_store = median((0..REPEATS).map(|_| self.time(first, self::index)).collect());
-        let inner = self.inner(first);
+        let inner = self.inner(row);
         [index, one_store, inner, twin, pass, exact_pass, scan]
     }
 }

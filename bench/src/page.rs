@@ -45,9 +45,9 @@ in the program changes the time of its short loops by up to a half; so each, of 
 a multiple of 64 bytes. In a host's program it may lie elsewhere. A ratio in bold misses its goal.
 ";
 
-const ASKED_AGAIN: &str = "\
-\"One store, asked again\" is measured: what each further ask takes where the library tests the words of the first of
-the 8 stores once and then makes one ask of them many times.
+const WITHOUT_TEST: &str = "\
+\"Without the test\" is measured, over proved code: crates/repeating tests the 8 stores and then asks them in turn, all of
+the first store's rectangle, or does not. It is the difference, for each ask.
 
 ";
 
@@ -62,6 +62,10 @@ where few floats are fast.
 
 ";
 
+/// What `bench/compare` printed of the rows with the most floats when asks were last made
+/// faster, with the text that goes before. It stays till there is another such change.
+const BEFORE_AND_AFTER: &str = include_str!("../before_and_after.md");
+
 /// A column: its head, and what it says of a row.
 type Column = (&'static str, fn(&[Times], &Times) -> Option<String>);
 
@@ -72,7 +76,7 @@ const COLUMNS: [Column; 12] = [
     ("index", |_, t| Some(format!("{:.1}", t.index))),
     ("one store", |_, t| Some(format!("{:.1}", t.one_store))),
     ("less the soundness test", |all, t| less_soundness(all, t).map(|less| format!("{less:.1}"))),
-    ("one store, asked again", |_, t| t.inner.map(|inner| format!("{inner:.1}"))),
+    ("without the test", |_, t| t.inner.map(|inner| format!("{inner:.1}"))),
     ("(a) twin", |_, t| Some(format!("{:.1}", t.twin))),
     ("index / (a)", |_, t| Some(ratio(t.index / t.twin, OVER_TWIN, 2))),
     ("index / (b)", |_, t| Some(ratio(t.index / t.pass, goal_for_pass(t), 1))),
@@ -91,11 +95,12 @@ pub fn page(all: &[Times], cells: &[Cells]) -> String {
         let _ = writeln!(page, "(b) takes {pass:.1}, the exact sum {exact_pass:.1}.\n");
     }
     if all.iter().any(|t| t.inner.is_some()) {
-        page += ASKED_AGAIN;
+        page += WITHOUT_TEST;
     }
     Speeds::ALL.iter().for_each(|speeds| page += &section(all, *speeds));
     page += "## Goals\n\n";
     page += &goals::lines(all);
+    page = page + "\n" + BEFORE_AND_AFTER;
     page + "\n" + &cells_read(cells)
 }
 

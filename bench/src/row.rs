@@ -11,8 +11,15 @@ pub type Act = Box<dyn Fn(&mut Words, &mut [u16]) -> Reply>;
 /// A linear scan, which gives how many ids it wrote.
 pub type Scan = Box<dyn Fn(&Words, &mut [u16]) -> usize>;
 
-/// An ask so many times over, of words tested once.
-pub type Again = Box<dyn Fn(&Words, &mut [u16], usize) -> Reply>;
+/// Asks on all stores in turn, so many times over, which gives how many were accepted.
+pub type Asks = Box<dyn Fn(&mut [u16], usize) -> usize>;
+
+/// Asks of stores that are tested once, all of one rectangle.
+pub struct InTurn {
+    pub asks: Asks,
+    /// The same ask of the last store alone, by the index.
+    pub last: Act,
+}
 
 /// A call on one store.
 pub struct Call {
@@ -21,8 +28,6 @@ pub struct Call {
     pub twin: Act,
     /// Beside an ask.
     pub scan: Option<Scan>,
-    /// Beside an ask, where the library has it.
-    pub again: Option<Again>,
 }
 
 /// A call on stores that it takes in turn, all with so many floats of such speeds.
@@ -31,12 +36,27 @@ pub struct Row {
     pub floats: usize,
     pub speeds: Speeds,
     pub calls: Vec<Call>,
+    /// Beside asks at one time, where the library for them is linked.
+    pub in_turn: Option<InTurn>,
 }
 
 impl Row {
     /// Index, twin and the others must agree in every number, on every store.
     pub fn check(&self) {
         self.calls.iter().for_each(|call| call.check(&self.call));
+        if let (Some(in_turn), Some(last)) = (&self.in_turn, self.calls.last()) {
+            in_turn.check(&self.call, self.calls.len(), &last.base);
+        }
+    }
+}
+
+impl InTurn {
+    /// All are accepted, and the ids of the last store are those that the index lists.
+    fn check(&self, name: &str, stores: usize, last: &Words) {
+        let (mut list, mut own) = (vec![0; MOST_HELD], vec![0; MOST_HELD]);
+        assert!((self.asks)(&mut list, 2) == 2 * stores, "{name}: refused in turn");
+        let ids = (self.last)(&mut last.clone(), &mut own).value;
+        assert!(list[..ids] == own[..ids], "{name}: asked in turn it differs");
     }
 }
 
@@ -55,11 +75,6 @@ impl Call {
             let mut list = vec![0; MOST_HELD];
             let n = scan(&self.base, &mut list);
             assert!((n, &list) == (reply.value, listed), "{name}: the scan differs");
-        }
-        if let Some(again) = &self.again {
-            let mut list = vec![0; MOST_HELD];
-            let last = again(&self.base, &mut list, 2);
-            assert!((last, &list) == (*reply, listed), "{name}: asked again it differs");
         }
     }
 }

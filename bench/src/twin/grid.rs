@@ -28,9 +28,14 @@ static CURVE: [u16; CELLS] = {
     table
 };
 
+/// The curve number of the cell at a place: places are counted row by row.
+pub fn number_at(place: usize) -> usize {
+    usize::from(CURVE[place])
+}
+
 /// The curve number of a cell.
 pub fn curve_number(column: usize, row: usize) -> usize {
-    usize::from(CURVE[row * SIDE + column])
+    number_at(row * SIDE + column)
 }
 
 /// The column of an x, or the row of a y; the edge cells reach outward.
@@ -47,7 +52,7 @@ pub struct Range {
 
 impl Range {
     fn holds(&self, x: i64) -> bool {
-        self.low <= x && x <= self.high
+        (self.low <= x) & (x <= self.high)
     }
 
     /// The smallest range around both.
@@ -65,7 +70,8 @@ impl Rect {
         Rect([range(q.low_x, q.high_x), range(q.low_y, q.high_y)])
     }
 
+    /// No test waits for another, so that a pass over records has no branch on it.
     pub fn holds(&self, [x, y]: [i64; 2]) -> bool {
-        self.0[0].holds(x) && self.0[1].holds(y)
+        self.0[0].holds(x) & self.0[1].holds(y)
     }
 }

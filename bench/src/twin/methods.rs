@@ -1,8 +1,9 @@
 //! The four ways to choose cells.
 
-use super::grid::{column, curve_number, Range, Rect};
-use super::rows::join;
+use super::grid::{column, curve_number, number_at, Range, Rect};
+use super::rows::{bounds_of, join};
 use buffers::{Row, CELLS, EMPTY, SIDE, WIDTH};
+use float_index::method;
 
 /// Every cell from one column and row to another.
 #[derive(Clone, Copy)]
@@ -12,17 +13,33 @@ struct Block {
 }
 
 impl Block {
-    /// The curve numbers of its cells, with their columns and rows.
-    fn cells(self) -> impl Iterator<Item = (usize, [usize; 2])> {
+    /// The curve numbers of its cells.
+    fn cells(self) -> impl Iterator<Item = usize> {
         (self.first[1]..=self.last[1]).flat_map(move |row| {
             let columns = self.first[0]..=self.last[0];
-            columns.map(move |column| (curve_number(column, row), [column, row]))
+            columns.map(move |column| curve_number(column, row))
         })
     }
 
     fn bounds(self, rows: &[Row]) -> Row {
-        self.cells().fold(EMPTY, |all, (number, _)| join(all, rows[number]))
+        self.cells().fold(EMPTY, |all, number| join(all, rows[number]))
     }
+}
+
+/// Those of some places that pass a test, over the front of `kept`. Every place is
+/// written there, and only one that passes moves the end on: which pass has no
+/// pattern, and a branch on it would be guessed wrong.
+fn keep(
+    places: impl IntoIterator<Item = u16>,
+    kept: &mut [u16; CELLS],
+    passes: impl Fn(usize) -> bool,
+) -> &[u16] {
+    let mut n = 0;
+    for place in places {
+        kept[n] = place;
+        n += usize::from(passes(place.into()));
+    }
+    &kept[..n]
 }
 
 /// One ask put to one live phase: the rows of its slot by curve number, the
@@ -38,24 +55,40 @@ impl Choice<'_> {
     // Part of each kind of ask's own code, as it is where there is one kind.
     #[inline(always)]
     pub fn choose(&self, method: i32, marks: &mut [bool; CELLS]) -> usize {
-        let all = self.rows.iter().fold(EMPTY, |all, row| join(all, *row));
-        if all == EMPTY {
+        if method == method::OPTIMAL {
+            self.mark_reached(marks);
             return 0;
         }
-        let naive = self.expand(&all);
-        let (block, rounds) = match method {
-            0 => (Some(naive), 0),
-            1 => (self.narrow(naive), 0),
-            2 => self.iterate(naive),
-            _ => {
-                let reached = naive.cells().filter(|(number, at)| self.meets(*number, *at));
-                reached.for_each(|(number, _)| marks[number] = true);
-                return 0;
-            }
-        };
-        let cells = block.into_iter().flat_map(Block::cells);
-        cells.for_each(|(number, _)| marks[number] = true);
+        let (block, rounds) = self.block(method);
+        block.into_iter().flat_map(Block::cells).for_each(|number| marks[number] = true);
         rounds
+    }
+
+    /// The block that a method other than the optimal one reads, if any, and the rounds.
+    fn block(&self, method: i32) -> (Option<Block>, usize) {
+        let all = bounds_of(self.rows);
+        if all == EMPTY {
+            return (None, 0);
+        }
+        let naive = self.expand(&all);
+        match method {
+            method::NAIVE => (Some(naive), 0),
+            method::SEMI_NAIVE => (self.narrow(naive), 0),
+            _ => self.iterate(naive),
+        }
+    }
+
+    /// Marks the cells that are reached. They lie in the naive block, so neither bounds
+    /// nor block are found. A small rectangle leaves few of the columns.
+    // Inlined with `choose`, so that asks at one time look at one alone.
+    #[inline(always)]
+    fn mark_reached(&self, marks: &mut [bool; CELLS]) {
+        let [mut full, mut kept] = [[0; CELLS]; 2];
+        let full = keep(0..CELLS as u16, &mut full, |place| *self.row_at(place) != EMPTY);
+        let kept = keep(full.iter().copied(), &mut kept, |place| self.meets_on(0, place));
+        for place in kept.iter().copied().map(usize::from) {
+            marks[number_at(place)] |= self.meets_on(0, place) & self.meets_on(1, place);
+        }
     }
 
     fn narrow(&self, naive: Block) -> Option<Block> {
@@ -104,15 +137,17 @@ impl Choice<'_> {
         }
     }
 
-    fn meets(&self, number: usize, at: [usize; 2]) -> bool {
-        let row = &self.rows[number];
-        *row != EMPTY && (0..2).all(|axis| self.meets_on(axis, row, at[axis]))
+    fn row_at(&self, place: usize) -> &Row {
+        &self.rows[number_at(place)]
     }
 
-    fn meets_on(&self, axis: usize, row: &Row, place: usize) -> bool {
-        let reach = self.reach(axis, row);
+    /// Whether the column, or the row, of the cell at a place meets the rectangle's span
+    /// of the axis, moved by the speeds of the cell. No test waits for another.
+    fn meets_on(&self, axis: usize, place: usize) -> bool {
+        let reach = self.reach(axis, self.row_at(place));
+        let i = [place % SIDE, place / SIDE][axis];
         let width = i64::from(WIDTH);
-        let low = width * place as i64;
-        (place == 0 || low <= reach.high) && (place == SIDE - 1 || reach.low < low + width)
+        let low = width * i as i64;
+        ((i == 0) | (low <= reach.high)) & ((i == SIDE - 1) | (reach.low < low + width))
     }
 }

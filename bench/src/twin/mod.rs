@@ -2,14 +2,16 @@
 //! doing things, over the same buffers.
 
 mod grid;
+mod ids;
 mod methods;
 mod motion;
+mod reading;
 mod rows;
 mod store;
 
 use buffers::{record, Words, CELLS, EMPTY, HELD, NOW};
 use float_index::{method, refusal, Rectangle, Reply, Report};
-use float_index::{ASK_AFTER, ASK_BEFORE, LAST_POSITION, LAST_TIME, LONGEST_WINDOW};
+use float_index::{ASK_AFTER, ASK_BEFORE, LAST_POSITION, LAST_TIME, LONGEST_WINDOW, MOST_HELD};
 use grid::Rect;
 use methods::Choice;
 use motion::Query;
@@ -173,17 +175,19 @@ pub fn ask(words: &Words, list: &mut [u16], method: i32, when: impl When, q: Rec
 }
 
 fn ask_sound<W: When>(words: &Words, list: &mut [u16], method: i32, query: &Query<W>) -> Reply {
-    let mut found = [0; store::IDS];
+    // No float is in two phases; reading wants a place more.
+    let mut ids = [0; MOST_HELD + 1];
     let mut sum = Reply::default();
     let c = phase_of(words.store[NOW]);
-    for phase in first_live(c).max(0)..=c {
+    // Newest first, as the index does it.
+    for phase in (first_live(c).max(0)..=c).rev() {
         let slot = slot_of(phase);
         let rows = &buffers::rows(&words.table)[CELLS * slot..CELLS * (slot + 1)];
         let d = query.when.ends().map(|time| time - reference_time(phase));
         let choice = Choice { rows, q: &query.rect, d };
         let mut marks = [false; CELLS];
         sum.rounds += choice.choose(method, &mut marks);
-        let reading = store::read_cells(words, slot, &marks, query, &mut found);
+        let reading = reading::read_cells(words, slot, &marks, query, &mut ids[sum.value..]);
         sum.value += reading.listed;
         sum.cells += reading.cells;
         sum.useful += reading.useful;
@@ -191,12 +195,12 @@ fn ask_sound<W: When>(words: &Words, list: &mut [u16], method: i32, query: &Quer
     if list.len() < sum.value {
         return plain(refusal::LIST_TOO_SHORT, sum.value);
     }
-    store::write_rising(&found, list);
+    ids::write_rising(&ids[..sum.value], list);
     sum
 }
 
 /// A linear scan without checks.
 #[inline(never)]
 pub fn scan(words: &Words, list: &mut [u16], when: impl When, q: Rectangle) -> usize {
-    store::scan(words, &Query { rect: Rect::new(q), when }, list)
+    reading::scan(words, &Query { rect: Rect::new(q), when }, list)
 }

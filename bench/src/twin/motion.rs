@@ -33,7 +33,7 @@ impl When for At {
     }
 
     fn lists(self, rect: &Rect, r: &Report) -> bool {
-        i64::from(r.t) <= self.0 && rect.holds(position(r, self.0))
+        (i64::from(r.t) <= self.0) & rect.holds(position(r, self.0))
     }
 }
 

@@ -1,6 +1,6 @@
 //! Speed rows, phases and slots.
 
-use buffers::{rows_mut, Row, CELLS, EMPTY, MID_PHASE, PHASE, SLOTS};
+use buffers::{rows, rows_mut, Row, CELLS, EMPTY, MID_PHASE, PHASE, ROW_NUMBERS, SLOTS};
 use float_index::{Report, TOP_SPEED};
 
 pub fn phase_of(t: i32) -> i64 {
@@ -24,15 +24,46 @@ pub fn join(a: Row, b: Row) -> Row {
     [0, 1].map(|axis| [a[axis][0].min(b[axis][0]), a[axis][1].max(b[axis][1])])
 }
 
+/// Rows are folded 16 at a time, each of their numbers in a lane of its own.
+const LANES: usize = 16 * ROW_NUMBERS;
+
+// No row of a slot is left over.
+const _: () = assert!((CELLS * ROW_NUMBERS).is_multiple_of(LANES));
+
+/// The bounds of all rows of a slot. Each lane of their numbers is folded into a least
+/// and a greatest, though a row needs but one of the two: the loop is then compiled to
+/// vectors.
+pub fn bounds_of(slot: &[Row]) -> Row {
+    let [none_least, none_greatest] = EMPTY[0];
+    let mut least = [none_least; LANES];
+    let mut greatest = [none_greatest; LANES];
+    for block in slot.as_flattened().as_flattened().as_chunks::<LANES>().0 {
+        for ((v, low), high) in block.iter().zip(&mut least).zip(&mut greatest) {
+            *low = (*low).min(*v);
+            *high = (*high).max(*v);
+        }
+    }
+    let lanes = rows(&least).iter().zip(rows(&greatest));
+    let lane_rows = lanes.map(|(low, high)| [0, 1].map(|axis| [low[axis][0], high[axis][1]]));
+    lane_rows.fold(EMPTY, join)
+}
+
 /// The row of one float's speeds.
 pub fn row_of(r: &Report) -> Row {
     [r.vx, r.vy].map(|v| [v as i16; 2])
 }
 
-pub fn is_valid(row: &Row) -> bool {
+fn is_valid([x, y]: &Row) -> bool {
     let top = TOP_SPEED as i16;
-    let axis = |[least, greatest]: [i16; 2]| -top <= least && least <= greatest && greatest <= top;
-    *row == EMPTY || (axis(row[0]) && axis(row[1]))
+    let axis =
+        |[least, greatest]: [i16; 2]| (-top <= least) & (least <= greatest) & (greatest <= top);
+    ((*x == EMPTY[0]) & (*y == EMPTY[1])) | (axis(*x) & axis(*y))
+}
+
+/// In one pass without a branch or an early way out: which rows are empty goes from
+/// row to row without a pattern, and a branch on it would be guessed wrong.
+pub fn are_valid(table: &[Row]) -> bool {
+    table.iter().fold(true, |valid, row| valid & is_valid(row))
 }
 
 pub fn holds(row: &Row, r: &Report) -> bool {

@@ -1,14 +1,14 @@
-//! The records: soundness, changes, retirement, the phase change, reading.
+//! The records: soundness, changes, retirement, the phase change.
 
 use super::grid::{column, curve_number};
-use super::motion::{position, Query, When};
-use super::rows::{first_live, holds, is_valid, join, phase_of, reference_time, row_of, slot_of};
+use super::motion::position;
+use super::rows::{are_valid, first_live, holds, join, phase_of, reference_time, row_of, slot_of};
 use buffers::{key, order, records, records_mut, report, rows, rows_mut};
 use buffers::{Record, Words, CELLS, HELD, ID, KEY, KEYS, NOW, RECORD_WORDS, SLOTS, TIME};
 use float_index::{Report, LAST_ID, LAST_POSITION, LAST_TIME, MOST_HELD, SILENCE, TOP_SPEED};
 
 /// Ids are below this.
-pub const IDS: usize = LAST_ID as usize + 1;
+const IDS: usize = LAST_ID as usize + 1;
 
 /// The key of a report in a phase.
 pub fn key_in(phase: i64, r: &Report) -> i32 {
@@ -71,7 +71,7 @@ pub fn is_sound(words: &Words) -> bool {
     let rows = rows(&words.table);
     words.have_lengths()
         && is_sound_store(&words.store)
-        && rows.iter().all(is_valid)
+        && are_valid(rows)
         && words.held().iter().all(|r| holds(&rows[r[KEY] as usize], &report(r)))
 }
 
@@ -169,82 +169,4 @@ pub fn step_records(words: &mut Words, c: i64, later: i64) {
         records[place..place + gone].copy_from_slice(dead);
     }
     dead.iter().for_each(|r| widen(&mut words.table, r));
-}
-
-// ---- reading
-
-/// What reading gives back: floats listed, cells read, useful cells.
-#[derive(Default)]
-pub struct Reading {
-    pub listed: usize,
-    pub cells: usize,
-    pub useful: usize,
-}
-
-/// Reads the marked cells of a slot, each run of marked numbers as one run of
-/// records, and marks the ids listed.
-pub fn read_cells<W: When>(
-    words: &Words,
-    slot: usize,
-    marks: &[bool; CELLS],
-    query: &Query<W>,
-    found: &mut [u8; IDS],
-) -> Reading {
-    let records = words.held();
-    let mut reading = Reading::default();
-    let mut last = -1;
-    let mut number = 0;
-    while number < CELLS {
-        if !marks[number] {
-            number += 1;
-            continue;
-        }
-        let run = marks[number..].iter().take_while(|mark| **mark).count();
-        let low = key(slot, number) as i32;
-        let start = records.partition_point(|r| r[KEY] < low);
-        let stop = low + run as i32;
-        for r in records[start..].iter().take_while(|r| r[KEY] < stop) {
-            if query.lists(&report(r)) {
-                found[r[ID] as usize] = 1;
-                reading.listed += 1;
-                reading.useful += usize::from(r[KEY] != last);
-                last = r[KEY];
-            }
-        }
-        reading.cells += run;
-        number += run;
-    }
-    reading
-}
-
-/// The marked ids by rising number, in front of a list that has room for them.
-/// A block of marks with none is passed over whole.
-pub fn write_rising(found: &[u8; IDS], list: &mut [u16]) {
-    const BLOCK: usize = 32;
-    let mut n = 0;
-    for (number, block) in found.chunks_exact(BLOCK).enumerate() {
-        if block.iter().fold(0, |any, mark| any | mark) == 0 {
-            continue;
-        }
-        for (k, mark) in block.iter().enumerate() {
-            if *mark != 0 {
-                list[n] = (BLOCK * number + k) as u16;
-                n += 1;
-            }
-        }
-    }
-}
-
-/// The ids of the floats that a query lists, in order, with no test of anything
-/// and every record read.
-pub fn scan<W: When>(words: &Words, query: &Query<W>, list: &mut [u16]) -> usize {
-    let mut n = 0;
-    for r in words.held() {
-        if query.lists(&report(r)) {
-            list[n] = r[ID] as u16;
-            n += 1;
-        }
-    }
-    list[..n].sort_unstable();
-    n
 }

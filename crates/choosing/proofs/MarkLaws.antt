@@ -1,26 +1,17 @@
 -- What the code of mark relies on: marking goes list by list, and a loop that marks what is left of a list marks the whole list.
 -- Assumes nothing.
 use mathlib.Core.Path.{_≡_, refl, sym, ap, _∙_}
-use mathlib.Core.Bool.{Bool, true, false}
 use mathlib.Core.List.{List, [], _∷_, _++_}
 use mathlib.Core.Logic.{dite}
-use Prim.Native.Nat.{ℕ, _+_, _≤_, _<_}
+use Prim.Native.Nat.{ℕ, _+_, _<_}
 use native.Mathlib.Decide.{ℕ-discrete}
 use native.Mathlib.Omega.{arith}
 use lib.ListN.{length, getD, set, replicate, length-replicate, getD-replicate}
 use lib.Seq.{getD-set-same, getD-set-other, ext-getD}
-use Rattle.ints.specs.Lists.{passing}
-use Rattle.ints.proofs.Lists.{passing-append}
 use Rattle.grid.specs.Units.{cells}
-use Rattle.grid.specs.Curve.{cell}
 use Rattle.grid.specs.declared.Cell.{Cell}
-use Rattle.rows.specs.Row.{isEmpty}
-use Rattle.methods.specs.Aims.{Aim}
-use Rattle.methods.specs.Methods.{Rows, isReached, reached}
 use Rattle.methods.specs.Marks.{withCells}
 use Rattle.choosing.specs.Mark.{noMarks, Marked}
-use Rattle.methods.specs.declared.Block.{Block}
-use Rattle.choosing.proofs.MarkPassesLaws.{rowFrom, row-before, row-none, rowsFrom, rows-before, rows-none}
 
 -- ---- clearing
 

@@ -11,7 +11,7 @@ use native.Mathlib.Omega.{arith}
 use borrow.Author.Tests.{ne-eqb}
 use lib.Bits.{bitOr}
 use lib.Dec.{eqb}
-use lib.ListN.{length, getD, set, take, drop, replicate, length-set, length-replicate, getD-replicate, drop-of-length-le}
+use lib.ListN.{length, getD, set, take, drop, replicate, length-set, length-replicate, length-drop, getD-replicate, drop-of-length-le}
 use lib.Seq.{getD-set-same, getD-set-other, set-getD, lt-length-set, ext-getD, drop-cons, getD-take, length-take-le, take-set-le, take-suc-set}
 use mir.Val.{boolByte}
 use Rattle.ints.specs.Lists.{passing}
@@ -23,15 +23,17 @@ use Rattle.grid.specs.Places.{OnGrid}
 use Rattle.grid.specs.Curve.{cell, curveNumber, IsCurve}
 use Rattle.grid.specs.declared.Cell.{Cell}
 use Rattle.rows.specs.Row.{isEmpty}
-use Rattle.methods.specs.Aims.{Aim}
+use Rattle.methods.specs.Aims.{Aim, aimOf}
 use Rattle.methods.specs.Claims.{ValidRows}
 use Rattle.methods.specs.Fair.{Fair}
 use Rattle.methods.specs.Marks.{withCells, marksOf}
 use Rattle.methods.specs.Methods.{Rows, choice}
+use Rattle.methods.specs.declared.View.{View}
+use Rattle.reaching.proofs.ReachingLaws.{column-of-met}
 use Rattle.methods.proofs.Claims.{optimal-reached, reached-optimal}
 use Rattle.methods.proofs.Marks.{isMark, mark-of-cell, cell-of-mark}
 use Rattle.choosing.specs.Mark.{noMarks, Marked}
-use Rattle.choosing.specs.Reached.{cellAt, placesFrom, places, hasRow, nonempty, meeting, Bits, ListsNonempty}
+use Rattle.choosing.specs.Reached.{cellAt, placesFrom, places, hasRow, nonempty, meeting, mayMeet, Bits, ArePlaces, ListsNonempty, KeepsColumns}
 
 pub byte-small : (b : Bool) → boolByte b ≤ 1
 byte-small true = omega arith
@@ -71,78 +73,126 @@ unfolding placesFrom
 places-in zero place k m = absurd (List·Memᴰ·not-nil m)
 places-in (suc n) place k m = ⊎-elim (λ (e : k ≡ place). omega arith) (λ i. let h = places-in n (suc place) k i in omega arith) (List·Memᴰ·cases-cons m)
 
--- ---- a list that grows by the places that pass
+element-in : (xs : List ℕ) (i : ℕ) → i < length xs → List·Memᴰ (getD xs i 0) xs
+element-in [] i h = absurd (omega arith)
+element-in (x ∷ xs) zero h = List·Memᴰ·head refl
+element-in (x ∷ xs) (suc i) h = List·Memᴰ·tail (element-in xs i (omega arith))
 
-module _ (rows : Rows) where
-  -- the list so far and what passes of the places that are left are all that pass
-  pub record Listing (full : List ℕ) (k place : ℕ) : Type 0 where
-    pub few : k ≤ place
-    pub up-to : place ≤ cells
-    pub long : length full ≡ cells
-    pub listed : take k full ++ nonempty rows (placesFrom place (cells - place)) ≡ nonempty rows places
+-- ---- a list that grows by the numbers that pass
 
-  pub listing-start : (full : List ℕ) → length full ≡ cells → Listing full 0 0
-  listing-start full e = record { few = omega arith; up-to = omega arith; long = e; listed = refl }
+module _ (f : ℕ → Bool) (all : List ℕ) where
+  -- the list so far and what passes of the numbers that are left are all that pass
+  pub record Growing (out : List ℕ) (m : ℕ) (rest : List ℕ) : Type 0 where
+    pub room : m + length rest ≤ length out
+    pub grown : take m out ++ passing f rest ≡ passing f all
 
-  -- the places left, as the loop passes them
-  next-place : (place : ℕ) → place < cells → placesFrom place (cells - place) ≡ place ∷ placesFrom (place + 1) (cells - (place + 1))
-  unfolding placesFrom
-  next-place place h =
-      let e : cells - place ≡ suc (cells - (place + 1)) = omega arith in
-      let n : suc place ≡ place + 1 = omega arith in
-      rw (e, n)
+  pub growing-start : (out : List ℕ) → length all ≤ length out → Growing out 0 all
+  growing-start out h = record { room = omega arith; grown = refl }
 
-  -- the list after a place that passes, or does not
-  grown : (full : List ℕ) (k place : ℕ) (rest : List ℕ) → k < length full → (b : Bool) → take (k + boolByte b) (set full k place) ++ rest ≡ take k full ++ cond b (place ∷ rest) rest
-  grown full k place rest h true =
-      ap (λ (n : ℕ). take n (set full k place) ++ rest) (add-one k)
-      ∙ ap (λ (l : List ℕ). l ++ rest) (take-suc-set full k place h)
-      ∙ append-assoc (take k full) (place ∷ []) rest
-  grown full k place rest h false =
-      let n : k + 0 ≡ k = omega arith in
-      ap (λ (m : ℕ). take m (set full k place) ++ rest) n ∙ ap (λ (l : List ℕ). l ++ rest) (take-set-le k full k place (omega arith))
+  -- the list after a number that passes, or does not
+  after-one : (out : List ℕ) (m n : ℕ) (rest : List ℕ) → m < length out → (b : Bool) → take (m + boolByte b) (set out m n) ++ rest ≡ take m out ++ cond b (n ∷ rest) rest
+  after-one out m n rest h true =
+      ap (λ (i : ℕ). take i (set out m n) ++ rest) (add-one m)
+      ∙ ap (λ (l : List ℕ). l ++ rest) (take-suc-set out m n h)
+      ∙ append-assoc (take m out) (n ∷ []) rest
+  after-one out m n rest h false =
+      let e : m + 0 ≡ m = omega arith in
+      ap (λ (i : ℕ). take i (set out m n) ++ rest) e ∙ ap (λ (l : List ℕ). l ++ rest) (take-set-le m out m n (omega arith))
 
-  passed : (place : ℕ) (rest : List ℕ) (b : Bool) → b ≡ hasRow rows place → cond b (place ∷ nonempty rows rest) (nonempty rows rest) ≡ nonempty rows (place ∷ rest)
+  passed : (n : ℕ) (rest : List ℕ) (b : Bool) → b ≡ f n → cond b (n ∷ passing f rest) (passing f rest) ≡ passing f (n ∷ rest)
   unfolding passing
-  passed place rest b e = ap (λ (t : Bool). cond t (place ∷ nonempty rows rest) (nonempty rows rest)) e
+  passed n rest b e = ap (λ (t : Bool). cond t (n ∷ passing f rest) (passing f rest)) e
 
-  pub listing-next : (full : List ℕ) (k place : ℕ) → Listing full k place → place < cells → (b : Bool) → b ≡ hasRow rows place → Listing (set full k place) (k + boolByte b) (place + 1)
-  listing-next full k place l h b e =
-      let rest = placesFrom (place + 1) (cells - (place + 1)) in
-      let long = l .long in
-      let few = l .few in
+  pub growing-next :
+      (out : List ℕ) (m n : ℕ) (rest rest′ : List ℕ)
+      → Growing out m rest
+      → rest ≡ n ∷ rest′
+      → (b : Bool)
+      → b ≡ f n
+      → Growing (set out m n) (m + boolByte b) rest′
+  growing-next out m n rest rest′ g e b is =
+      let long : length rest ≡ suc (length rest′) = ap length e in
+      let room = g .room in
       let small = byte-small b in
       record {
-        few = omega arith;
-        up-to = omega arith;
-        long = simp length-set long;
-        listed =
-            grown full k place (nonempty rows rest) (omega arith) b
-            ∙ ap (λ (x : List ℕ). take k full ++ x) (passed place rest b e ∙ ap (nonempty rows) (sym (next-place place h)))
-            ∙ l .listed;
+        room = omega (arith, length-set out m n);
+        grown = after-one out m n (passing f rest′) (omega arith) b ∙ ap (λ (x : List ℕ). take m out ++ x) (passed n rest′ b is ∙ ap (passing f) (sym e)) ∙ g .grown;
       }
 
-  pub listing-end : (full : List ℕ) (k place : ℕ) → Listing full k place → cells ≤ place → ListsNonempty rows full k
-  unfolding placesFrom passing
-  listing-end full k place l h =
-      let none : cells - place ≡ 0 = omega arith in
-      record {
-        room = let long = l .long in let few = l .few in let up = l .up-to in omega arith;
-        places-are = sym (append-nil (take k full)) ∙ ap (λ (n : ℕ). take k full ++ nonempty rows (placesFrom place n)) (sym none) ∙ l .listed;
-      }
+  pub growing-end : (out : List ℕ) (m : ℕ) (rest : List ℕ) → Growing out m rest → rest ≡ [] → (m ≤ length out) × (take m out ≡ passing f all)
+  unfolding passing
+  growing-end out m rest g e =
+      (let room = g .room in omega arith, sym (append-nil (take m out)) ∙ ap (λ (x : List ℕ). take m out ++ passing f x) (sym e) ∙ g .grown)
 
-  element-in : (xs : List ℕ) (i : ℕ) → i < length xs → List·Memᴰ (getD xs i 0) xs
-  element-in [] i h = absurd (omega arith)
-  element-in (x ∷ xs) zero h = List·Memᴰ·head refl
-  element-in (x ∷ xs) (suc i) h = List·Memᴰ·tail (element-in xs i (omega arith))
+-- ---- the places as the loop passes them
 
-  pub listed-places : (full : List ℕ) (k : ℕ) → ListsNonempty rows full k → (i : ℕ) → i < k → getD full i 0 < cells
-  listed-places full k l i h =
-      let long : i < length (take k full) = omega (arith, length-take-le k full (l .room)) in
-      let n = getD (take k full) i 0 in
-      let there : List·Memᴰ n (nonempty rows places) = subst (λ (xs : List ℕ). List·Memᴰ n xs) (l .places-are) (element-in (take k full) i long) in
-      let small = places-in cells 0 n (passing-in (hasRow rows) places there .0) in
+abbrev pub placesLeft : ℕ → List ℕ
+placesLeft place = placesFrom place (cells - place)
+
+pub next-place : (place : ℕ) → place < cells → placesLeft place ≡ place ∷ placesLeft (place + 1)
+unfolding placesFrom
+next-place place h =
+    let e : cells - place ≡ suc (cells - (place + 1)) = omega arith in
+    let n : suc place ≡ place + 1 = omega arith in
+    rw (e, n)
+
+pub no-place : (place : ℕ) → cells ≤ place → placesLeft place ≡ []
+unfolding placesFrom
+no-place place h = let none : cells - place ≡ 0 = omega arith in rw none
+
+places-long : (n place : ℕ) → length (placesFrom place n) ≡ n
+unfolding placesFrom
+places-long zero place = refl
+places-long (suc n) place = ap suc (places-long n (suc place))
+
+pub left-long : (place : ℕ) → length (placesLeft place) ≡ cells - place
+left-long place = places-long (cells - place) place
+
+pub places-fit : (full : List ℕ) → length full ≡ cells → length places ≤ length full
+places-fit full e = omega (arith, places-long cells 0)
+
+pub lists-nonempty : (rows : Rows) (full : List ℕ) (k : ℕ) → (k ≤ length full) × (take k full ≡ nonempty rows places) → ListsNonempty rows full k
+lists-nonempty rows full k h = record { room = h .0; places-are = h .1 }
+
+-- ---- the numbers of a list, one by one
+
+module _ (full : List ℕ) (k : ℕ) (room : k ≤ length full) where
+  front-long : length (take k full) ≡ k
+  front-long = length-take-le k full room
+
+  pub numbers-left : (i : ℕ) → length (drop i (take k full)) ≡ k - i
+  numbers-left i = length-drop i (take k full) ∙ ap (λ (n : ℕ). n - i) front-long
+
+  pub front-fits : (out : List ℕ) → k ≤ length out → length (take k full) ≤ length out
+  front-fits out h = omega (arith, front-long)
+
+  pub next-number : (i : ℕ) → i < k → drop i (take k full) ≡ getD full i 0 ∷ drop (i + 1) (take k full)
+  next-number i h =
+      drop-cons (take k full) i 0 (omega (arith, front-long))
+      ∙ ap₂ (λ (n j : ℕ). n ∷ drop j (take k full)) (getD-take k full i 0 h) (sym (add-one i))
+
+  pub no-number : (i : ℕ) → k ≤ i → drop i (take k full) ≡ []
+  no-number i h = let long : length (take k full) ≤ i = omega (arith, front-long) in drop-of-length-le (take k full) long
+
+  pub place-at : ArePlaces (take k full) → (i : ℕ) → i < k → getD full i 0 < cells
+  place-at are i h =
+      let there = element-in (take k full) i (omega (arith, front-long)) in
+      let small = are (getD (take k full) i 0) there in
       omega (arith, getD-take k full i 0 h)
+
+pub listed-places : {rows : Rows} {full : List ℕ} {k : ℕ} → ListsNonempty rows full k → ArePlaces (take k full)
+listed-places {rows} l place m =
+    let there = subst (λ (xs : List ℕ). List·Memᴰ place xs) (l .places-are) m in
+    let small = places-in cells 0 place (passing-in (hasRow rows) places there .0) in
+    omega arith
+
+pub kept-places : {rows : Rows} {v : View} {ps kept : List ℕ} {m : ℕ} → KeepsColumns rows v ps kept m → ArePlaces ps → ArePlaces (take m kept)
+kept-places {rows} {v} {ps} k are place m =
+    let there = subst (λ (xs : List ℕ). List·Memᴰ place xs) (k .kept-are) m in
+    are place (passing-in (mayMeet rows v) ps there .0)
+
+pub keeps-columns : (rows : Rows) (v : View) (ps kept : List ℕ) (m : ℕ) → (m ≤ length kept) × (take m kept ≡ passing (mayMeet rows v) ps) → KeepsColumns rows v ps kept m
+keeps-columns rows v ps kept m h = record { room = h .0; kept-are = h .1 }
 
 -- ---- marking
 
@@ -162,28 +212,58 @@ module _ (rows : Rows) (aim : Aim) where
       go true h = rw (← h) (ap (λ (j : ℕ). set marks j 1) e)
       go false h = rw (← h) (set-getD marks n 0)
 
+  -- marking goes place by place
+  pub met-more : (place : ℕ) (ps : List ℕ) → meeting rows aim (place ∷ ps) ≡ meeting rows aim (place ∷ []) ++ meeting rows aim ps
+  met-more place ps = passing-append isMet (cellAt place ∷ []) (map cellAt ps)
+
   pub met-next : (full : List ℕ) (k i : ℕ) → k ≤ length full → i < k
       → meeting rows aim (drop i (take k full)) ≡ meeting rows aim (getD full i 0 ∷ []) ++ meeting rows aim (drop (i + 1) (take k full))
-  met-next full k i room h =
-      let front = take k full in
-      let long : i < length front = omega (arith, length-take-le k full room) in
-      ap (meeting rows aim) (drop-cons front i 0 long)
-      ∙ ap₂ (λ (p : ℕ) (j : ℕ). meeting rows aim (p ∷ drop j front)) (getD-take k full i 0 h) (sym (add-one i))
-      ∙ passing-append isMet (cellAt (getD full i 0) ∷ []) (map cellAt (drop (i + 1) front))
+  met-next full k i room h = ap (meeting rows aim) (next-number full k room i h) ∙ met-more (getD full i 0) (drop (i + 1) (take k full))
 
   pub met-none : (full : List ℕ) (k i : ℕ) → k ≤ length full → k ≤ i → meeting rows aim (drop i (take k full)) ≡ []
   unfolding passing
-  met-none full k i room h =
-      let long : length (take k full) ≤ i = omega (arith, length-take-le k full room) in
-      ap (meeting rows aim) (drop-of-length-le (take k full) long)
+  met-none full k i room h = ap (meeting rows aim) (no-number full k room i h)
 
-  -- the listed places are those with nonempty rows
-  pub listed-marked :
-      {before after full : List ℕ} {k : ℕ}
+-- a place whose column does not meet can be left out
+module _ (rows : Rows) (v : View) where
+  met-not : (p : ℕ) (ps : List ℕ) → mayMeet rows v p ≡ false → meeting rows (aimOf v) (p ∷ ps) ≡ meeting rows (aimOf v) ps
+  unfolding passing
+  met-not p ps e = go (isMet rows (aimOf v) (cellAt p)) refl
+    where
+      go :
+          (b : Bool)
+          → isMet rows (aimOf v) (cellAt p) ≡ b
+          → cond b (cellAt p ∷ meeting rows (aimOf v) ps) (meeting rows (aimOf v) ps) ≡ meeting rows (aimOf v) ps
+      go true h = absurd (true-false (sym (column-of-met v (cellAt p) (rows (cellAt p)) h) ∙ e))
+      go false h = refl
+
+  kept-meeting : (ps : List ℕ) → meeting rows (aimOf v) (passing (mayMeet rows v) ps) ≡ meeting rows (aimOf v) ps
+  unfolding passing
+  kept-meeting [] = refl
+  kept-meeting (p ∷ ps) = go (mayMeet rows v p) refl (kept-meeting ps)
+    where
+      go :
+          (b : Bool)
+          → mayMeet rows v p ≡ b
+          → meeting rows (aimOf v) (passing (mayMeet rows v) ps) ≡ meeting rows (aimOf v) ps
+          → meeting rows (aimOf v) (cond b (p ∷ passing (mayMeet rows v) ps) (passing (mayMeet rows v) ps)) ≡ meeting rows (aimOf v) (p ∷ ps)
+      go true e ih =
+          met-more rows (aimOf v) p (passing (mayMeet rows v) ps)
+          ∙ ap (λ (cs : List Cell). meeting rows (aimOf v) (p ∷ []) ++ cs) ih
+          ∙ sym (met-more rows (aimOf v) p ps)
+      go false e ih = ih ∙ sym (met-not p ps e)
+
+  -- what is marked of the places kept of those listed is what meets of all with nonempty rows
+  pub kept-marked :
+      {before after full kept : List ℕ} {k m : ℕ}
       → ListsNonempty rows full k
-      → Marked before (meeting rows aim (take k full)) after
-      → Marked before (meeting rows aim (nonempty rows places)) after
-  listed-marked {before} {after} l m = subst (λ (ps : List ℕ). Marked before (meeting rows aim ps) after) (l .places-are) m
+      → KeepsColumns rows v (take k full) kept m
+      → Marked before (meeting rows (aimOf v) (take m kept)) after
+      → Marked before (meeting rows (aimOf v) (nonempty rows places)) after
+  kept-marked {before} {after} {full} {kept} {k} l c marked =
+      subst (λ (cs : List Cell). Marked before cs after)
+      (ap (meeting rows (aimOf v)) (c .kept-are) ∙ (kept-meeting (take k full) ∙ ap (meeting rows (aimOf v)) (l .places-are)))
+      marked
 
 -- ---- two lists of the same cells have the same marks
 

@@ -3,7 +3,7 @@
 -- Assumes nothing.
 use mathlib.Core.Path.{_≡_}
 use mathlib.Core.Bool.{Bool, not}
-use mathlib.Core.List.{List, [], _∷_, map}
+use mathlib.Core.List.{List, [], _∷_, map, List·Memᴰ}
 use Prim.Native.Nat.{ℕ, zero, suc, _/_, _%_, _≤_, _<_}
 use lib.IntN.{ℤ}
 use lib.ListN.{length, getD, take}
@@ -16,7 +16,7 @@ use Rattle.rows.specs.Needs.{HasSlot}
 use Rattle.methods.specs.Aims.{Aim}
 use Rattle.methods.specs.Methods.{Rows}
 use Rattle.methods.specs.declared.View.{View}
-use Rattle.reaching.specs.Reaching.{IsViewAsk}
+use Rattle.reaching.specs.Reaching.{IsViewAsk, columnReaches}
 use Rattle.choosing.specs.Bounds.{IsSlot}
 use Rattle.choosing.specs.Mark.{noMarks}
 
@@ -44,6 +44,10 @@ nonempty rows = passing (hasRow rows)
 -- the cells at some places that, moved by their rows' speeds, meet the rectangle
 abbrev pub meeting : Rows → Aim → List ℕ → List Cell
 meeting rows aim ps = passing (λ c. aim .meets c (rows c)) (map cellAt ps)
+
+-- whether the column of the cell at a place, moved by its row's speeds, meets the rectangle's width
+abbrev pub mayMeet : Rows → View → ℕ → Bool
+mayMeet rows v place = columnReaches v (cellAt place) (rows (cellAt place))
 
 -- ---- what the functions ask
 
@@ -73,6 +77,30 @@ pub record ListsNonempty (rows : Rows) (full : List ℕ) (k : ℕ) : Type 0 wher
   pub room : k ≤ length full
   pub places-are : take k full ≡ nonempty rows places
 
+pub record CanTestPlace (numbers : List ℕ) (table : List ℤ) (slot : ℕ) (v : View) (place : ℕ) : Type 0 where
+  pub curve : IsCurve numbers
+  pub of-slot : IsSlot table slot
+  pub ask : IsViewAsk v
+  pub is-place : IsPlace place
+
+-- the front of a list has places alone
+abbrev pub ArePlaces : List ℕ → Type 0
+ArePlaces ps = (place : ℕ) → List·Memᴰ place ps → place < cells
+
+pub record CanKeep (numbers : List ℕ) (table : List ℤ) (slot : ℕ) (v : View) (full : List ℕ) (k : ℕ) (kept : List ℕ) : Type 0 where
+  pub curve : IsCurve numbers
+  pub of-slot : IsSlot table slot
+  pub ask : IsViewAsk v
+  pub room : k ≤ length full
+  pub all-places : ArePlaces (take k full)
+  pub few : k ≤ cells
+  pub one-each : length kept ≡ cells
+
+-- what is kept of some places, over the front of a list
+pub record KeepsColumns (rows : Rows) (v : View) (ps kept : List ℕ) (m : ℕ) : Type 0 where
+  pub room : m ≤ length kept
+  pub kept-are : take m kept ≡ passing (mayMeet rows v) ps
+
 pub record CanMarkPlace (numbers : List ℕ) (table : List ℤ) (slot : ℕ) (v : View) (place : ℕ) (marks : List ℕ) : Type 0 where
   pub curve : IsCurve numbers
   pub of-slot : IsSlot table slot
@@ -86,7 +114,7 @@ pub record CanMarkListed (numbers : List ℕ) (table : List ℤ) (slot : ℕ) (v
   pub of-slot : IsSlot table slot
   pub ask : IsViewAsk v
   pub room : k ≤ length full
-  pub all-places : (i : ℕ) → i < k → getD full i 0 < cells
+  pub all-places : ArePlaces (take k full)
   pub one-each : length marks ≡ cells
   pub bits : Bits marks
 

@@ -1,6 +1,6 @@
 // The cells that the optimal method reads, of all cells of the grid. A cell that is reached lies in the naive block, so neither bounds nor block are
-// found here: the cells whose rows are nonempty are listed, then the listed ones are tested. Neither pass has a branch on what it finds: which cells pass
-// goes from cell to cell without a pattern.
+// found here: the cells whose rows are nonempty are listed, of these the ones whose columns, moved, meet the rectangle's width are kept, and the cells kept
+// are tested. No pass has a branch on what it finds: which cells pass goes from cell to cell without a pattern.
 ghost use mathlib.Core.Path.{_≡_};
 ghost use mathlib.Core.Bool.{not, cond};
 ghost use mathlib.Core.List.{[], _∷_};
@@ -11,10 +11,12 @@ ghost use Rattle.rows.specs.Row.{isEmpty};
 ghost use Rattle.methods.specs.Aims.{aimOf};
 ghost use Rattle.methods.specs.Slots.{rowsOfSlot};
 ghost use Rattle.choosing.specs.Mark.{Marked};
-ghost use Rattle.choosing.specs.Reached.{cellAt, places, IsPlace, CanLookUpPlace, CanReadPlace, CanList, ListsNonempty, nonempty, meeting, CanMarkPlace, CanMarkListed, CanMarkReached};
+ghost use Rattle.choosing.specs.Reached.{cellAt, places, nonempty, meeting, mayMeet};
+ghost use Rattle.choosing.specs.Reached.{IsPlace, CanLookUpPlace, CanReadPlace, CanList, ListsNonempty, CanTestPlace, CanKeep, KeepsColumns, CanMarkPlace, CanMarkListed, CanMarkReached};
 use grid::Cell;
 use methods::View;
 use reaching::cell_meets;
+use reaching::column_reaches;
 use rows::Row;
 
 // The cell at a place: places are counted row by row from the low corner.
@@ -63,6 +65,45 @@ fn list_nonempty(
         place += 1;
     }
     k
+}
+
+// Whether the column of the cell at a place, moved by its row's speeds, meets the rectangle's width.
+fn may_meet(
+    numbers: &[u16; grid::CELLS],
+    table: &[i16],
+    slot: usize,
+    view: View,
+    place: usize,
+) -> bool
+    requires { ⌜ CanTestPlace (now numbers) (now table) slot view place ⌝ }
+    ensures { λ b. ⌜ b ≡ mayMeet (rowsOfSlot (now (table .entry)) slot) view place ⌝ }
+{
+    let n = number_at(numbers, place);
+    column_reaches(view, cell_at(place), Row::read(table, slot, n))
+}
+
+// Those of the k listed places whose cells' columns meet the rectangle's width, over the front of `kept`, and how many they are. A small rectangle leaves few.
+fn keep_columns(
+    numbers: &[u16; grid::CELLS],
+    table: &[i16],
+    slot: usize,
+    view: View,
+    full: &[u16],
+    k: usize,
+    kept: &mut [u16],
+) -> usize
+    requires { ⌜ CanKeep (now numbers) (now table) slot view (now full) k (now kept) ⌝ }
+    ensures { λ m. ⌜ KeepsColumns (rowsOfSlot (now (table .entry)) slot) view (take k (now (full .entry))) (now (kept .exit)) m ⌝ }
+{
+    let mut m = 0;
+    let mut i = 0;
+    while i < k {
+        let place = full[i] as usize;
+        kept[m] = place as u16;
+        m += may_meet(numbers, table, slot, view, place) as usize;
+        i += 1;
+    }
+    m
 }
 
 // The mark of a cell that is met, or the one that it had.
@@ -120,6 +161,8 @@ pub fn mark_reached(table: &[i16], slot: usize, view: View, marks: &mut [u8])
 {
     let numbers = grid::curve_numbers();
     let mut full = [0u16; grid::CELLS];
+    let mut kept = [0u16; grid::CELLS];
     let k = list_nonempty(&numbers, table, slot, &mut full);
-    mark_listed(&numbers, table, slot, view, &full, k, marks);
+    let m = keep_columns(&numbers, table, slot, view, &full, k, &mut kept);
+    mark_listed(&numbers, table, slot, view, &kept, m, marks);
 }

@@ -26,8 +26,11 @@ use Rattle.rows.specs.declared.Row.{Row}
 use Rattle.rows.proofs.RowLaws.{Ranged, valid-cases}
 use Rattle.methods.specs.Reach.{expandedRange, expandedRect, aroundRanges, expandedWindow, movedSpan, meets, movedCellMeets, movedAround, movedAroundMeets}
 use Rattle.methods.specs.Slices.{earliest, latest}
-use Rattle.reaching.specs.Reaching.{IsAsk, SmallAxis, CanCount}
+use Rattle.reaching.specs.Reaching.{IsAsk, SmallAxis, CanCount, columnAroundMeets, columnReaches}
+use Rattle.methods.specs.Aims.{aimOf}
 use Rattle.methods.specs.declared.Slice.{Slice}
+use Rattle.methods.specs.declared.View.{View}
+use Rattle.methods.specs.declared.View.the-variants as View
 use Rattle.methods.specs.declared.Window.{Window}
 use Rattle.methods.proofs.Axis.{expanded-is, meets-expanded}
 use Rattle.methods.proofs.Windows.{around-meets-expanded}
@@ -170,7 +173,7 @@ pub expanded-called :
     → r ≡ expandedRange range l g d
 expanded-called range = axis-called (expandedRange range)
 
-meets-called :
+pub meets-called :
     (i : ℕ) (range : Range) (r : Bool) (l g d : ℤ)
     → r ≡ meets (movedSpan (cellSpan i) (back w16 l) (back w16 g) (back w64 d)) range
     → mag l < 2 ^ hbits w16
@@ -240,6 +243,11 @@ module _ (w : Window) (c : Cell) (row : Row) (reach : Rect) (is : reach ≡ expa
   unfolding expandedWindow expandedRect
   y-is = ap (λ (q : Rect). q .y) is
 
+  pub window-column :
+      r ≡ notBelow (cellSpan (c .column) .low) (reach .x .high) && notAbove (cellSpan (c .column) .high) (reach .x .low)
+      → r ≡ columnAroundMeets w c row
+  window-column e = moved-both (c .column) _ _ w (w .rect .x) (reach .x) r e x-is
+
   pub window-both :
       (t : Bool)
       → r ≡ notBelow (cellSpan (c .column) .low) (reach .x .high) && notAbove (cellSpan (c .column) .high) (reach .x .low)
@@ -250,3 +258,9 @@ module _ (w : Window) (c : Cell) (row : Row) (reach : Rect) (is : reach ≡ expa
       ap₂ _&&_
       (moved-both (c .column) _ _ w (w .rect .x) (reach .x) r e x-is)
       (moved-both (c .row) _ _ w (w .rect .y) (reach .y) t f y-is)
+
+-- a cell that meets has a column that does
+pub column-of-met : (v : View) (c : Cell) (row : Row) → aimOf v .meets c row ≡ true → columnReaches v c row ≡ true
+unfolding movedCellMeets movedAroundMeets
+column-of-met (View.Slice s) c row h = and-left _ (meets (movedSpan (cellSpan (c .row)) (row .«least_vy») (row .«greatest_vy») (s .d)) (s .rect .y)) h
+column-of-met (View.Window w) c row h = and-left _ (meets (movedAround (cellSpan (c .row)) (row .«least_vy») (row .«greatest_vy») w) (w .rect .y)) h

@@ -1,11 +1,11 @@
 -- What the functions of reach ask of a timeslice, a window, a row and a cell. The limits keep every sum and product in 64 bits.
 -- Assumes nothing.
 use mathlib.Core.Path.{_≡_}
-use mathlib.Core.Bool.{true}
+use mathlib.Core.Bool.{Bool, true}
 use Prim.Native.Nat.{ℕ, suc, _≤_, _<_}
 use lib.IntN.{ℤ, natAbs}
 use Rattle.grid.specs.Units.{side, lastPosition, speedLimit}
-use Rattle.grid.specs.Places.{OnGrid}
+use Rattle.grid.specs.Places.{OnGrid, cellSpan}
 use Rattle.grid.specs.Reports.{isTime, isPosition}
 use Rattle.grid.specs.declared.Cell.{Cell}
 use Rattle.grid.specs.declared.Query.{Query}
@@ -15,7 +15,7 @@ use Rattle.grid.specs.declared.When.the-variants.{At, During}
 use Rattle.rows.specs.Row.{validRow}
 use Rattle.rows.specs.Phases.{lastPhase}
 use Rattle.rows.specs.declared.Row.{Row}
-use Rattle.methods.specs.Reach.{atFirst, atLast}
+use Rattle.methods.specs.Reach.{movedSpan, meets, movedAround, atFirst, atLast}
 use Rattle.methods.specs.Slices.{latest, IsSlice}
 use Rattle.methods.specs.declared.Slice.{Slice}
 use Rattle.methods.specs.declared.View.{View}
@@ -100,3 +100,15 @@ pub record SmallAxis (r : Range) (least greatest d : ℤ) : Type 0 where
 pub record CanMoveColumn (i : ℕ) (r : Range) (least greatest d : ℤ) : Type 0 where
   pub column-on : i < side
   pub small : SmallAxis r least greatest d
+
+-- ---- the column of a cell alone, moved by its row's speeds
+
+abbrev pub movedColumnMeets : Slice → Cell → Row → Bool
+movedColumnMeets s c r = meets (movedSpan (cellSpan (c .column)) (r .«least_vx») (r .«greatest_vx») (s .d)) (s .rect .x)
+
+abbrev pub columnAroundMeets : Window → Cell → Row → Bool
+columnAroundMeets w c r = meets (movedAround (cellSpan (c .column)) (r .«least_vx») (r .«greatest_vx») w) (w .rect .x)
+
+abbrev pub columnReaches : View → Cell → Row → Bool
+columnReaches (View.Slice s) c r = movedColumnMeets s c r
+columnReaches (View.Window w) c r = columnAroundMeets w c r

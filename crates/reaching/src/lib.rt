@@ -8,7 +8,7 @@ ghost use Rattle.grid.specs.Places.{cellSpan, notBelow, notAbove};
 ghost use Rattle.methods.specs.Reach.{expandedRange, expandedRect, blockOf, movedSpan, meets, movedCellMeets};
 ghost use Rattle.methods.specs.Aims.{aimOf, viewOf};
 ghost use Rattle.rows.specs.Phases.{sinceReference};
-ghost use Rattle.reaching.specs.Reaching.{CanCount, CanSee, CanExpand, CanMeet, CanExpandView, CanMeetView, SmallMotion, SmallAxis, CanMoveColumn};
+ghost use Rattle.reaching.specs.Reaching.{CanCount, CanSee, CanExpand, CanMeet, CanExpandView, CanMeetView, SmallMotion, SmallAxis, CanMoveColumn, movedColumnMeets, columnReaches};
 use grid::Cell;
 use grid::Query;
 use grid::Range;
@@ -112,6 +112,14 @@ pub fn expanded(v: View, bounds: Row) -> Rect
     }
 }
 
+// Whether the column of a cell, moved by its row's speeds, meets the width of a timeslice's rectangle.
+fn slice_column_meets(s: Slice, c: Cell, row: Row) -> bool
+    requires { ⌜ CanMeet s c row ⌝ }
+    ensures { λ r. ⌜ r ≡ movedColumnMeets s c row ⌝ }
+{
+    moved_meets(c.column, row.least_vx, row.greatest_vx, s.rect.x, s.d)
+}
+
 // Whether a cell, moved by its row's speeds, meets the rectangle of a timeslice.
 fn slice_meets(s: Slice, c: Cell, row: Row) -> bool
     requires { ⌜ CanMeet s c row ⌝ }
@@ -129,6 +137,17 @@ pub fn cell_meets(v: View, c: Cell, row: Row) -> bool
     match v {
         View::Slice(s) => slice_meets(s, c, row),
         View::Window(w) => windows::window_meets(w, c, row),
+    }
+}
+
+// Whether the column of a cell, moved by its row's speeds, meets the rectangle's width. Where it does not, the cell does not either.
+pub fn column_reaches(v: View, c: Cell, row: Row) -> bool
+    requires { ⌜ CanMeetView v c row ⌝ }
+    ensures { λ r. ⌜ r ≡ columnReaches v c row ⌝ }
+{
+    match v {
+        View::Slice(s) => slice_column_meets(s, c, row),
+        View::Window(w) => windows::window_column_meets(w, c, row),
     }
 }
 

@@ -2,7 +2,7 @@
 ghost use mathlib.Core.Path.{_≡_};
 ghost use Rattle.ints.specs.Whole.{minZ, maxZ};
 ghost use Rattle.methods.specs.Reach.{aroundRanges, aroundRects, expandedWindow, movedAroundMeets};
-ghost use Rattle.reaching.specs.Reaching.{CanExpandWindow, CanMeetWindow};
+ghost use Rattle.reaching.specs.Reaching.{CanExpandWindow, CanMeetWindow, columnAroundMeets};
 use crate::column_meets;
 use crate::expanded_slice;
 use grid::Cell;
@@ -53,6 +53,15 @@ pub fn expanded_window(w: Window, bounds: Row) -> Rect
     let at_first = expanded_slice(Slice { rect, d: w.first }, bounds);
     let at_last = expanded_slice(Slice { rect, d: w.last }, bounds);
     around_rects(at_first, at_last)
+}
+
+// Whether the smallest span around the column of a cell moved to both times meets the width of the rectangle.
+pub fn window_column_meets(w: Window, c: Cell, row: Row) -> bool
+    requires { ⌜ CanMeetWindow w c row ⌝ }
+    ensures { λ r. ⌜ r ≡ columnAroundMeets w c row ⌝ }
+{
+    let reach = expanded_window(w, row);
+    column_meets(c.column, reach.x)
 }
 
 // Whether the smallest rectangle around a cell moved to both times meets the rectangle: the cell, where it is, meets the expanded one.

@@ -107,17 +107,17 @@ pub fn slot_bounds(table: &[i16], slot: usize) -> Row
     join_lanes(&least, &greatest)
 }
 
-// Whether every row of the table is valid, in one pass without a branch or an early way out.
+// Whether every row of the table is valid, in one pass.
 pub fn all_valid(table: &[i16]) -> bool
     requires { ⌜ length (now table) ≡ tableWords ⌝ }
     ensures { λ r. ⌜ r ≡ validTable (now (table .entry)) ⌝ }
 {
-    let mut valid = true;
     let mut k = 0;
     while k < TABLE_WORDS {
-        let here = Row::read_from(table, k).is_valid();
-        valid = valid & here;
+        if !Row::read_from(table, k).is_valid() {
+            return false;
+        }
         k += ROW_WORDS;
     }
-    valid
+    true
 }

@@ -11,7 +11,7 @@ use Rattle.methods.specs.Aims.{aimOf}
 use Rattle.methods.specs.Slots.{rowsOfSlot}
 use Rattle.choosing.specs.Reached.{meeting, Bits}
 use Rattle.choosing.proofs.MarkLaws.{Left, left-all, left-next, left-none}
-use Rattle.choosing.proofs.ReachedLaws.{bits-kept, met-next, met-none}
+use Rattle.choosing.proofs.ReachedLaws.{bits-kept, place-at, met-next, met-none}
 use Rattle.choosing.proofs.reached.mark_listed.Statement.{statement}
 use Rattle.choosing.proofs.reached.mark_listed.Tie as tie
 
@@ -41,18 +41,20 @@ shared-slice-read-place c = omega (arith, start (c .before .before) .pre .room, 
 cast-place : tie.Need-cast-place Inv-loop μ-loop
 cast-place c =
     let in-loop = c .before in
-    omega (arith, start (in-loop .before) .pre .all-places (in-loop .before .loop .i) (in-loop .loop-test .taken))
+    let a = start (in-loop .before) in
+    omega (arith, place-at (now (a .args .full)) (a .args .k) (a .pre .room) (a .pre .all-places) (in-loop .before .loop .i) (in-loop .loop-test .taken))
 
 mark-if-met-requires : tie.Need-mark-if-met-requires Inv-loop μ-loop
 mark-if-met-requires c κs =
     let in-loop = c .before .before in
     let at = in-loop .before in
-    let a = start at .pre in
+    let s = start at in
+    let a = s .pre in
     record {
       curve = a .curve;
       of-slot = a .of-slot;
       ask = a .ask;
-      is-place = record { within = a .all-places (at .loop .i) (in-loop .loop-test .taken) };
+      is-place = record { within = place-at (now (s .args .full)) (s .args .k) (a .room) (a .all-places) (at .loop .i) (in-loop .loop-test .taken) };
       one-each = at .loop .inv .0;
       bits = at .loop .inv .1;
     }

@@ -1,9 +1,7 @@
 -- `choosing::reached::number_at` meets its contract: the table of curve numbers has them by place.
 -- Assumes nothing.
-use mathlib.Core.Path.{_≡_}
 use native.Mathlib.Omega.{arith}
 use borrow.Author.Needs.{needs}
-use Rattle.grid.specs.Curve.{curveNumber}
 use Rattle.grid.proofs.CurveLaws.{number-below}
 use Rattle.choosing.specs.Reached.{cellAt}
 use Rattle.choosing.proofs.ReachedLaws.{place-on, place-numbered}

@@ -1,13 +1,14 @@
--- `rows::table::all_valid` meets its contract. The invariant: the table is valid exactly when the rows seen are and those from the number at k on are.
+-- `rows::table::all_valid` meets its contract. The invariant says what is left: the table is valid exactly when its rows from the number at k on are.
 -- The measure is what is left of the numbers.
 -- Assumes nothing.
 use mathlib.Core.Path.{_≡_, refl, sym, ap, ap₂, _∙_}
-use mathlib.Core.Bool.{Bool, true, _&&_, and-assoc, and-true}
+use mathlib.Core.Bool.{Bool, true, _&&_}
 use mathlib.Core.List.{List}
 use Prim.Native.Nat.{ℕ, suc, _+_, _-_, _/_, _%_, _≤_, _<_}
 use native.Mathlib.Nat.{add-zero}
 use native.Mathlib.Omega.{arith}
 use borrow.Author.Needs.{needs}
+use borrow.Author.Tests.{not-true, not-false}
 use denote.Ref.{now}
 use lib.IntN.{ℤ}
 use lib.ListN.{drop}
@@ -23,10 +24,10 @@ abbrev left : List ℤ → ℕ → Bool
 left table k = validRows ((tableWords - k) / 4) (drop k table)
 
 abbrev Inv-loop : tie.InvT-loop
-Inv-loop table valid₀ k₀ valid k = (k ≤ tableWords) × (k % 4 ≡ 0) × (validTable table ≡ valid && left table k)
+Inv-loop table k₀ k = (k ≤ tableWords) × (k % 4 ≡ 0) × (validTable table ≡ left table k)
 
 abbrev μ-loop : tie.MeasureT-loop
-μ-loop table valid₀ k₀ valid k = tableWords - k
+μ-loop table k₀ k = tableWords - k
 
 next : (table : List ℤ) (k : ℕ) → k < tableWords → k % 4 ≡ 0 → left table k ≡ validRow (rowFrom table k) && left table (k + 4)
 unfolding validRows
@@ -45,6 +46,20 @@ read-from-requires c κs = omega arith
 is-valid-requires : tie.Need-is-valid-requires Inv-loop μ-loop
 is-valid-requires c κs = search needs
 
+-- what is left, by the test of this row
+turn :
+    (c : tie.After-is-valid Inv-loop μ-loop)
+    → validTable (now (c .before .before .before .before .args .table))
+    ≡ c .is-valid .result && left (now (c .before .before .before .before .args .table)) (c .before .before .before .loop .k + 4)
+turn c =
+    let h = c .before .before .before in
+    let table = now (h .before .args .table) in
+    let row = c .is-valid .ensures ∙ ap validRow (c .before .read-from .ensures) in
+    h .loop .inv .2 ∙ next table (h .loop .k) (omega arith) (omega arith) ∙ ap (λ (b : Bool). b && left table (h .loop .k + 4)) (sym row)
+
+returns : tie.Need-returns Inv-loop μ-loop
+returns c = sym (turn (c .before) ∙ simp (not-true (c .before .is-valid .result) (c .if1 .taken)))
+
 add-k : tie.Need-add-k Inv-loop μ-loop
 add-k c = omega arith
 
@@ -52,27 +67,16 @@ loop-less : tie.Need-loop-less Inv-loop μ-loop
 loop-less c = omega arith
 
 loop-again : tie.Need-loop-again Inv-loop μ-loop
-loop-again c =
-    let h = c .before .before .before in
-    let table = now (h .before .args .table) in
-    let row = c .is-valid .ensures ∙ ap validRow (c .before .read-from .ensures) in
-    let rest = left table (h .loop .k + 4) in (
-      omega arith,
-      omega arith,
-      h .loop .inv .2
-          ∙ ap (λ (b : Bool). h .loop .valid && b) (next table (h .loop .k) (omega arith) (omega arith) ∙ ap (λ (b : Bool). b && rest) (sym row))
-          ∙ sym (and-assoc (h .loop .valid) (c .is-valid .result) rest),
-    )
+loop-again c = (omega arith, omega arith, turn (c .before) ∙ simp (not-false (c .before .is-valid .result) (c .if1 .left)))
 
 none-left : (table : List ℤ) (k : ℕ) → k ≡ tableWords → left table k ≡ true
 unfolding validRows
 none-left table k e = let z : (tableWords - k) / 4 ≡ 0 = omega arith in rw z
 
-returns : tie.Need-returns Inv-loop μ-loop
-returns c =
-    let l = c .before .loop in
-    let e : l .k ≡ tableWords = omega arith in
-    sym (l .inv .2 ∙ ap (λ (b : Bool). l .valid && b) (none-left (now (c .before .before .args .table)) (l .k) e) ∙ and-true (l .valid))
+returns-2 : tie.Need-returns-2 Inv-loop μ-loop
+returns-2 c =
+    let e : c .before .loop .k ≡ tableWords = omega arith in
+    sym (c .before .loop .inv .2 ∙ none-left (now (c .before .before .args .table)) (c .before .loop .k) e)
 
 pub all-valid-spec : {M : Type 1} → statement M
 all-valid-spec =
@@ -83,7 +87,8 @@ all-valid-spec =
     loop-holds
     read-from-requires
     is-valid-requires
+    returns
     add-k
     loop-less
     loop-again
-    returns)
+    returns-2)
