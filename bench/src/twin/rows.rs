@@ -53,17 +53,10 @@ pub fn row_of(r: &Report) -> Row {
     [r.vx, r.vy].map(|v| [v as i16; 2])
 }
 
-fn is_valid([x, y]: &Row) -> bool {
+pub fn is_valid(row: &Row) -> bool {
     let top = TOP_SPEED as i16;
-    let axis =
-        |[least, greatest]: [i16; 2]| (-top <= least) & (least <= greatest) & (greatest <= top);
-    ((*x == EMPTY[0]) & (*y == EMPTY[1])) | (axis(*x) & axis(*y))
-}
-
-/// In one pass without a branch or an early way out: which rows are empty goes from
-/// row to row without a pattern, and a branch on it would be guessed wrong.
-pub fn are_valid(table: &[Row]) -> bool {
-    table.iter().fold(true, |valid, row| valid & is_valid(row))
+    let axis = |[least, greatest]: [i16; 2]| -top <= least && least <= greatest && greatest <= top;
+    *row == EMPTY || (axis(row[0]) && axis(row[1]))
 }
 
 pub fn holds(row: &Row, r: &Report) -> bool {

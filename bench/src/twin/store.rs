@@ -2,7 +2,7 @@
 
 use super::grid::{column, curve_number};
 use super::motion::position;
-use super::rows::{are_valid, first_live, holds, join, phase_of, reference_time, row_of, slot_of};
+use super::rows::{first_live, holds, is_valid, join, phase_of, reference_time, row_of, slot_of};
 use buffers::{key, order, records, records_mut, report, rows, rows_mut};
 use buffers::{Record, Words, CELLS, HELD, ID, KEY, KEYS, NOW, RECORD_WORDS, SLOTS, TIME};
 use float_index::{Report, LAST_ID, LAST_POSITION, LAST_TIME, MOST_HELD, SILENCE, TOP_SPEED};
@@ -71,7 +71,7 @@ pub fn is_sound(words: &Words) -> bool {
     let rows = rows(&words.table);
     words.have_lengths()
         && is_sound_store(&words.store)
-        && are_valid(rows)
+        && rows.iter().all(is_valid)
         && words.held().iter().all(|r| holds(&rows[r[KEY] as usize], &report(r)))
 }
 

@@ -2,18 +2,13 @@
 -- Assumes nothing.
 use borrow.Author.Needs.{needs}
 use mir.Syntax.{w16}
-use Rattle.ints.proofs.Machine.{tested₂}
-use Rattle.rows.specs.Needs.{emptyAxis}
-use Rattle.rows.specs.Row.{validAxis}
-use Rattle.rows.proofs.RowLaws.{valid-parts}
+use Rattle.ints.proofs.Machine.{both, neither, either, otherwise, tested₂}
+use Rattle.rows.specs.Row.{validAxis, validRow}
 use Rattle.rows.proofs.Row.is_valid.Statement.{statement}
 use Rattle.rows.proofs.Row.is_valid.Tie as tie
 
-empty-axis-requires : tie.Need-empty-axis-requires
-empty-axis-requires c κs = search needs
-
-empty-axis-requires-2 : tie.Need-empty-axis-requires-2
-empty-axis-requires-2 c κs = search needs
+is-empty-requires : tie.Need-is-empty-requires
+is-empty-requires c κs = search needs
 
 valid-axis-requires : tie.Need-valid-axis-requires
 valid-axis-requires c κs = search needs
@@ -22,14 +17,24 @@ valid-axis-requires-2 : tie.Need-valid-axis-requires-2
 valid-axis-requires-2 c κs = search needs
 
 returns : tie.Need-returns
-returns c = search (valid-parts, tested₂ w16 emptyAxis, tested₂ w16 validAxis)
+unfolding validRow
+returns c = search either
+
+returns-2 : tie.Need-returns-2
+unfolding validRow
+returns-2 c = search (otherwise, both, tested₂ w16 validAxis)
+
+returns-3 : tie.Need-returns-3
+unfolding validRow
+returns-3 c = search (otherwise, neither, tested₂ w16 validAxis)
 
 pub is-valid-spec : {M : Type 1} → statement M
 is-valid-spec =
     tie.close
     (tie.spec
-    empty-axis-requires
-    empty-axis-requires-2
+    is-empty-requires
     valid-axis-requires
     valid-axis-requires-2
-    returns)
+    returns
+    returns-2
+    returns-3)
