@@ -1,5 +1,6 @@
 // The work of an ask over buffers known to be sound: in each live phase cells are chosen and read, and the readings are summed. The answer is built
 // from that sum.
+#![tactic(auto)]
 ghost use Rattle.std.specs.Prelude.{◌≡◌, true, pos};
 ghost use Rattle.ints.specs.Whole.{up, between};
 ghost use Rattle.rows.specs.Phases.{slot_of};
@@ -19,7 +20,7 @@ use reading::Reading;
 const IDS: usize = rows::SLOTS * records::CAPACITY + 1;
 
 // What asking in a phase, or in several, gives back: what was read there, and the rounds of choosing. How many cells were read is only in the reading.
-#[derive(Drop)]
+#[derive(Clone, Copy)]
 pub struct Counts {
     pub read: Reading,
     pub rounds: usize,

@@ -1,4 +1,5 @@
 // The chart program: document 02, A1. It prints the curve table of the grid, drawn from the four shapes, and reads nothing.
+#![tactic(auto)]
 ghost use Rattle.std.specs.Prelude.{◌≡◌};
 ghost use Rattle.drawing.specs.Chart.{chart_text};
 

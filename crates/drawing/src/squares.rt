@@ -11,7 +11,7 @@ use grid::{CELLS, SIDE};
 pub const ORDER: usize = 5;
 
 // Its side is 2 to the power of the order. It starts at a column and a row, and the first cell visited in it gets the number `first`.
-#[derive(Drop)]
+#[derive(Clone, Copy)]
 pub struct Square {
     pub order: usize,
     pub column: usize,

@@ -32,7 +32,7 @@ pos-writable n h = le-leb n greatest h
 
 -- a number that a line may have is read back from a word as it is
 pub writable_back : (z : ℤ) → is_writable z ≡ true → back w32 z ≡ z
-writable_back z h = to_z-of_z (fits (omega (arith, in_range_lem z h)))
+writable_back z h = to_z-of_z {w = w32} (fits (omega (arith, in_range_lem z h)))
 
 module _ (z : ℤ) (zs : List ℤ) where
   pub first_writable : are_writable (z ∷ zs) ≡ true → is_writable z ≡ true

@@ -6,7 +6,7 @@ ghost use Rattle.fields.specs.Reading.{size_seen, with_digit, after, no_number, 
 use crate::{GREATEST, LEAST_SIZE, WIDTH};
 
 // What the bytes of a field are, as far as they have been read.
-#[derive(Drop)]
+#[derive(Clone, Copy)]
 pub enum Seen {
     Blanks,
     Minus,
@@ -19,14 +19,14 @@ pub enum Seen {
 }
 
 // A field's number, 0 where it has none.
-#[derive(Drop)]
+#[derive(Clone, Copy)]
 pub struct Field {
     pub good: bool,
     pub number: i32,
 }
 
 // The number from 0 on that the columns of a field are, of up to ten digits; 0 where they are none.
-#[derive(Drop)]
+#[derive(Clone, Copy)]
 pub struct Unsigned {
     pub good: bool,
     pub number: usize,

@@ -1,5 +1,6 @@
 // The fleet program: document 02, A5. It reads one line from standard input that says an invented fleet, and writes the call lines that add its floats,
 // or "?". Nothing is written before the input has ended, since a second line would make it another input.
+#![tactic(auto)]
 ghost use Rattle.std.specs.Prelude.{◌≡◌, ◌≤◌, length};
 ghost use Rattle.fleets.specs.Fleets.{fleet_text};
 ghost use Rattle.fleet.specs.Program.{ReadsPart, ReadsMore, ReadsInput};
@@ -11,7 +12,7 @@ use streams::{read_chunk, write_out};
 const INPUT_BYTES: usize = 32;
 
 // How many bytes are held after a read, and whether there is more to read. Where there is none, the input has ended or the read failed.
-#[derive(Drop)]
+#[derive(Clone, Copy)]
 pub struct Read {
     pub held: usize,
     pub more: bool,

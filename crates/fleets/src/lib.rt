@@ -1,4 +1,5 @@
 // Call lines of an invented fleet: document 02, A5. The input says the fleet, whose floats are drawn one after the other and added at time 0.
+#![tactic(auto)]
 
 mod making;
 mod reading;
@@ -10,7 +11,7 @@ pub use writing::{FLEET_BYTES, write_fleet};
 pub const MOST_FLOATS: usize = 1024;
 
 // What a fleet is drawn from: the start state, how many floats it has, and how many lines of it are skipped.
-#[derive(Drop)]
+#[derive(Clone, Copy)]
 pub struct Fleet {
     pub start: u32,
     pub floats: usize,
@@ -18,7 +19,7 @@ pub struct Fleet {
 }
 
 // What an input says.
-#[derive(Drop)]
+#[derive(Clone, Copy)]
 pub enum Input {
     Fleet(Fleet),
     // Any other input.

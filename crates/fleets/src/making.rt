@@ -15,7 +15,7 @@ const POSITIONS: u32 = (SIDE * CELL_SIZE) as u32;
 const SPEEDS: u32 = (2 * Row::LIMIT + 1) as u32;
 
 // A float's report, and the state after its draws.
-#[derive(Drop)]
+#[derive(Clone, Copy)]
 pub struct Made {
     pub report: Report,
     pub state: u32,

@@ -5,7 +5,7 @@ ghost use Rattle.generator.specs.Generator.{states, draw_below};
 use crate::steps::{STATES, step};
 
 // The state after the step, and what is drawn.
-#[derive(Drop)]
+#[derive(Clone, Copy)]
 pub struct Drawn {
     pub state: u32,
     pub number: u32,

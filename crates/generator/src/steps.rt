@@ -6,7 +6,7 @@ ghost use Rattle.generator.specs.Generator.{states, mapped, one, step};
 pub const STATES: u64 = 4294967296;
 
 // A state times the factor, and the term added.
-#[derive(Drop)]
+#[derive(Clone, Copy)]
 pub struct Affine {
     pub factor: u32,
     pub term: u32,

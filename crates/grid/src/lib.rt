@@ -1,5 +1,6 @@
 // The values of the grid (cells, ranges, rectangles, queries, reports), the limits of document 01, and when a query lists a report.
 // Positions are centimetres, speeds centimetres per second, times seconds.
+#![tactic(auto)]
 ghost use Rattle.std.specs.Prelude.{◌≡◌, ◌-ℤ◌};
 ghost use Rattle.grid.specs.Places.{position_after};
 ghost use Rattle.grid.specs.Moments.{passage_of, inside_during};
@@ -43,28 +44,28 @@ pub const LAST_TIME: i32 = 999999999;
 // How long a float may send nothing before it is lost, in seconds.
 pub const SILENCE: i32 = 2592000;
 
-#[derive(Drop)]
+#[derive(Clone, Copy)]
 pub struct Cell {
     pub column: usize,
     pub row: usize,
 }
 
 // From low to high along one axis, both included.
-#[derive(Drop)]
+#[derive(Clone, Copy)]
 pub struct Range {
     pub low: i64,
     pub high: i64,
 }
 
 // A rectangle.
-#[derive(Drop)]
+#[derive(Clone, Copy)]
 pub struct Rect {
     pub x: Range,
     pub y: Range,
 }
 
 // When an ask wants floats in its rectangle, in seconds.
-#[derive(Drop)]
+#[derive(Clone, Copy)]
 pub enum When {
     // At one time: document 01's timeslice query.
     At(i32),
@@ -73,14 +74,14 @@ pub enum When {
 }
 
 // What an ask wants: the floats predicted inside a rectangle, and when.
-#[derive(Drop)]
+#[derive(Clone, Copy)]
 pub struct Query {
     pub rect: Rect,
     pub when: When,
 }
 
 // What a float sent: at time t it was at (x, y) and drifted at (vx, vy).
-#[derive(Drop)]
+#[derive(Clone, Copy)]
 pub struct Report {
     pub id: i32,
     pub t: i32,

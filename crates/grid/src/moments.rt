@@ -8,7 +8,7 @@ use crate::Range;
 
 // A float's way through a range along one axis: u seconds after the start it is inside exactly if after <= speed * u <= until. Centimetres, and
 // centimetres per second; the speed is not below 0.
-#[derive(Drop)]
+#[derive(Clone, Copy)]
 pub struct Passage {
     pub after: i64,
     pub until: i64,

@@ -1,4 +1,5 @@
 // The calls after open and what a call gives back, in the index and in the plain ledger alike. The ledger itself is definitions only: see specs/.
+#![tactic(auto)]
 ghost use Rattle.std.specs.Prelude.{◌≡◌};
 ghost use Rattle.ledger.specs.Answers.{refusal_number, refusal_value};
 ghost use Rattle.ledger.specs.Refusals.{time_of, id_of};
@@ -7,7 +8,7 @@ ghost use Rattle.ledger.specs.Calls.{ask_of, window_of};
 use grid::{Query, Rect, Report, When};
 
 // A change of the floats held.
-#[derive(Drop)]
+#[derive(Clone, Copy)]
 pub enum Change {
     // A float that is not held sends its first report.
     Add(Report),
@@ -42,7 +43,7 @@ impl Change {
 }
 
 // An ask: the method by which cells are chosen, and the query.
-#[derive(Drop)]
+#[derive(Clone, Copy)]
 pub struct Ask {
     pub method: i32,
     pub query: Query,
@@ -85,7 +86,7 @@ impl Ask {
 }
 
 // A call after open, with its numbers.
-#[derive(Drop)]
+#[derive(Clone, Copy)]
 pub enum Call {
     // The clock goes to a time.
     Clock(i32),
@@ -93,7 +94,7 @@ pub enum Call {
     Ask(Ask),
 }
 
-#[derive(Drop)]
+#[derive(Clone, Copy)]
 pub enum Answer {
     // An accepted open, clock, add, report or drop: the floats held.
     Accepted(usize),
@@ -103,7 +104,7 @@ pub enum Answer {
 }
 
 // Why a call is declined, by the documents' numbers, in the order of the checks: 10 stands right after 3.
-#[derive(Drop)]
+#[derive(Clone, Copy)]
 pub enum Refusal {
     // 1: store not 7,175 words or table not 12,288 numbers.
     WrongLength,
@@ -126,7 +127,7 @@ pub enum Refusal {
 }
 
 // What the checks of a call come to.
-#[derive(Drop)]
+#[derive(Clone, Copy)]
 pub enum Verdict {
     Passed,
     Failed(Refusal),

@@ -1,4 +1,5 @@
 // The call lines of the replay program: document 01, "Lines". A line here has no newline.
+#![tactic(auto)]
 use fields::WIDTH;
 use ledger::Call;
 
@@ -12,7 +13,7 @@ pub const MOST_NUMBERS: usize = 8;
 pub const LONGEST_CALL: usize = 1 + WIDTH * MOST_NUMBERS;
 
 // What a line says.
-#[derive(Drop)]
+#[derive(Clone, Copy)]
 pub enum Line {
     // The time.
     Open(i32),

@@ -10,7 +10,7 @@ use grid::Report;
 use ledger::{Ask, Call, Change};
 
 // The numbers of a line, 0 past its count; good where it has just these.
-#[derive(Drop)]
+#[derive(Clone, Copy)]
 pub struct Numbers {
     pub good: bool,
     pub numbers: [i32; MOST_NUMBERS],

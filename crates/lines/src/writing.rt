@@ -55,7 +55,7 @@ fn narrow(z: i64) -> i32
 }
 
 // A rectangle's numbers, in the order in which a line has them.
-#[derive(Drop)]
+#[derive(Clone, Copy)]
 pub struct Corners {
     pub low_x: i32,
     pub low_y: i32,

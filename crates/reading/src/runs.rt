@@ -14,14 +14,14 @@ use records::{RECORD_WORDS, held_of};
 const SLOT_KEYS: i32 = CELLS as i32;
 
 // Where a run of records starts and stops, counted in records.
-#[derive(Drop)]
+#[derive(Clone, Copy)]
 pub struct Run {
     pub start: usize,
     pub stop: usize,
 }
 
 // Where a part of the store starts and stops, counted in words.
-#[derive(Drop)]
+#[derive(Clone, Copy)]
 pub struct Part {
     pub start: usize,
     pub stop: usize,

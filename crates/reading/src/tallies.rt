@@ -14,7 +14,7 @@ use records::order::is_same;
 use records::{RECORD_WORDS, Record};
 
 // Counts on the way: floats listed, useful cells, and the key of the last float listed.
-#[derive(Drop)]
+#[derive(Clone, Copy)]
 pub struct Tally {
     pub listed: usize,
     pub useful: usize,

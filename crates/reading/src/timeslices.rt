@@ -9,7 +9,7 @@ ghost use Rattle.reading.specs.Timeslices.{query_of};
 use grid::{Range, Rect, Report, wide_signed};
 
 // The floats in a rectangle at a time.
-#[derive(Drop)]
+#[derive(Clone, Copy)]
 pub struct Timeslice {
     pub rect: Rect,
     pub time: i32,

@@ -1,4 +1,5 @@
 // The record store of document 01, "Store and table": signed 32-bit words in records of 7, sorted by key, then id.
+#![tactic(auto)]
 ghost use Rattle.std.specs.Prelude.{◌≡◌, ◌<◌, ◌≤◌, ◌+◌, ◌^◌, nat_abs, length};
 ghost use Rattle.records.specs.Records.{record_from, now_of, held_of};
 
@@ -19,7 +20,7 @@ pub const STORE_WORDS: usize = RECORD_WORDS * (CAPACITY + 1);
 pub const FLOAT_WORDS: usize = RECORD_WORDS * CAPACITY;
 
 // A held float: its key, which is slot x 1,024 + curve number, and its report.
-#[derive(Drop)]
+#[derive(Clone, Copy)]
 pub struct Record {
     pub key: i32,
     pub report: Report,

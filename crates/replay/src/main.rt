@@ -1,6 +1,7 @@
 // The replay program: document 01, "Lines". It opens the index at 0, reads call lines from standard input to its end, and answers each on standard
 // output. What a chunk of input is answered is written before the next chunk is read, so one who types gets an answer to each line, and the memory
 // does not grow with the input. Where a read or a write failed it stops there: a line that is cut off is no line, and gets no answer.
+#![tactic(auto)]
 ghost use Rattle.std.specs.Prelude.{length};
 ghost use Rattle.libc.specs.Io.{Moved};
 ghost use Rattle.replay.specs.Program.{Lent, LentAll, Ready, Begins, TakesChunk, TakesRead, AnswersRead, Runs, Replays};
@@ -10,7 +11,7 @@ use streams::{read_chunk, write_out};
 
 // What a read came to: how many bytes it gave, how many of them were taken, which is all unless a write failed, and how many bytes of a line are
 // held. There is more to do, or the input has ended, or neither: the read or a write failed.
-#[derive(Drop)]
+#[derive(Clone, Copy)]
 pub struct Turn {
     pub got: usize,
     pub taken: usize,
@@ -20,7 +21,7 @@ pub struct Turn {
 }
 
 // How many bytes were taken of all the chunks and how many of a line are held, and whether the input has ended or something failed.
-#[derive(Drop)]
+#[derive(Clone, Copy)]
 pub struct Stop {
     pub taken: usize,
     pub held: usize,
@@ -28,7 +29,7 @@ pub struct Stop {
 }
 
 // The same, and how many bytes the answer to a last line has that lacks its newline.
-#[derive(Drop)]
+#[derive(Clone, Copy)]
 pub struct Done {
     pub taken: usize,
     pub held: usize,

@@ -1,4 +1,5 @@
 // Speed rows and the table that holds them: document 01, "Phases and speed rows". Speeds are centimetres per second, times seconds.
+#![tactic(auto)]
 ghost use Rattle.std.specs.Prelude.{◌≡◌, ◌<◌, ◌+◌, length};
 ghost use Rattle.ints.specs.Whole.{min_z, max_z, eq_z, between};
 ghost use Rattle.rows.specs.Row.{empty_row, joined, widened, holds, same_row, is_empty, valid_axis, valid_row};
@@ -28,14 +29,14 @@ pub const SLOT_WORDS: usize = ROW_WORDS * grid::CELLS;
 pub const TABLE_WORDS: usize = SLOTS * SLOT_WORDS;
 
 // What a row takes in of a float's report: how it drifts.
-#[derive(Drop)]
+#[derive(Clone, Copy)]
 pub struct Drift {
     pub vx: i16,
     pub vy: i16,
 }
 
 // The least and the greatest of each speed seen in a cell of a phase.
-#[derive(Drop)]
+#[derive(Clone, Copy)]
 pub struct Row {
     pub least_vx: i16,
     pub greatest_vx: i16,

@@ -12,14 +12,14 @@ pub const ANSWER_BYTES: usize = 1
     + 1;
 
 // How many bytes of the line are held, and how many bytes of the answers are there to be written.
-#[derive(Drop)]
+#[derive(Clone, Copy)]
 pub struct Place {
     pub held: usize,
     pub filled: usize,
 }
 
 // How many bytes of a chunk were taken, how many bytes of the answers are there to be written, and how many of the line are held.
-#[derive(Drop)]
+#[derive(Clone, Copy)]
 pub struct Fed {
     pub taken: usize,
     pub filled: usize,

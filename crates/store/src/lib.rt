@@ -1,4 +1,5 @@
 // The changes of a record store and of its table's rows: document 01, "Store and table". The records and their order are crate records.
+#![tactic(auto)]
 
 pub mod finding;
 pub mod inserting;

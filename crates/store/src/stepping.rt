@@ -18,7 +18,7 @@ use records::{RECORD_WORDS, Record, held_of};
 use rows::{is_live, phase_of};
 
 // A clock step: from now to a time, and the phases in which the two lie.
-#[derive(Drop)]
+#[derive(Clone, Copy)]
 pub struct Step {
     pub now: i64,
     pub time: i64,

@@ -1,6 +1,7 @@
 // Standard input read and standard output written. A call that was interrupted, or that would have to wait, is made again: it is neither the end of
 // the input nor a failure. A failure is told in one line on standard error, since the toolchain has no exit status: the program gives the line, and
 // the C library's words for the error end it.
+#![tactic(auto)]
 ghost use Rattle.std.specs.Prelude.{◌≤◌, length};
 ghost use Rattle.libc.specs.Io.{Moved};
 

@@ -14,30 +14,30 @@ use Rattle.grid.proofs.passage_from.Tie as tie
 abbrev same : ℤ → ℤ
 same z = z
 
-position-at-requires : tie.Need-position-at-requires
+position-at-requires : tie.Need-position_at-requires
 position-at-requires c κs = search rules
 
-wide-signed-requires : tie.Need-wide-signed-requires
+wide-signed-requires : tie.Need-wide_signed-requires
 wide-signed-requires c κs = search rules
 
-module _ (c : tie.After-wide-signed) where
-  position-is : back w64 c.before.position_at.result ≡ position_after c.before.before.args.x c.before.before.args.v (c.before.before.args.s -ℤ c.before.before.args.t)
+module _ (c : tie.After-wide_signed) where
+  position-is : back w64 c.position_at.result ≡ position_after c.args.x c.args.v (c.args.s -ℤ c.args.t)
   position-is =
-      let a = c.before.before.args in
-      held w64 c.before.position_at.result (search rules)
-      ∙ (c.before.position_at.ensures
+      let a = c.args in
+      held w64 c.position_at.result (search rules)
+      ∙ (c.position_at.ensures
       ∙ simp (held w32 a.x (search rules), held w32 a.v (search rules), held w32 a.t (search rules), held w64 a.s (search rules)))
 
-  speed_is : back w64 c.wide_signed.result ≡ c.before.before.args.v
+  speed_is : back w64 c.wide_signed.result ≡ c.args.v
   speed_is = search (called₁ w32 w64 same)
 
 of-requires : tie.Need-of-requires
-of-requires c κs = from_small _ _ c.before.before.requires (position-is c) (speed_is c)
+of-requires c κs = from_small _ _ c.requires (position-is c) (speed_is c)
 
 returns : tie.Need-returns
 returns c =
-    let a = c.before.before.before.args in
+    let a = c.args in
     c.of.ensures ∙ (λ i. passage_of (position-is c.before i) (speed_is c.before i) a.range)
 
-pub passage-from-spec : {M : Type 1} → statement M
-passage-from-spec = tie.close (tie.spec position-at-requires wide-signed-requires of-requires returns)
+pub passage_from_spec : {M : Type 1} → statement M
+passage_from_spec = tie.close (tie.spec position-at-requires wide-signed-requires of-requires returns)

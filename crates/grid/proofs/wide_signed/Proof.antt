@@ -5,11 +5,11 @@ use Rattle.ints.proofs.Machine.{wide_fits, wide_back}
 use Rattle.grid.proofs.wide_signed.Statement.{statement}
 use Rattle.grid.proofs.wide_signed.Tie as tie
 
-cast-result : tie.Need-overflow-cast-result
+cast-result : tie.Need-overflow_cast-result
 cast-result c = search (wide_fits w32 w64 tt)
 
 returns : tie.Need-returns
 returns c = search (wide_back w32 w64 tt)
 
-pub wide-signed-spec : {M : Type 1} → statement M
-wide-signed-spec = tie.close (tie.spec cast-result returns)
+pub wide_signed_spec : {M : Type 1} → statement M
+wide_signed_spec = tie.close (tie.spec cast-result returns)

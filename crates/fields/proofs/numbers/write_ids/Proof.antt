@@ -8,17 +8,17 @@ use Rattle.fields.proofs.NumbersLaws.{fields_columns}
 use Rattle.fields.proofs.numbers.write_ids.Statement.{statement}
 use Rattle.fields.proofs.numbers.write_ids.Tie as tie
 
-write-unsigned-requires : tie.Need-write-unsigned-requires
+write-unsigned-requires : tie.Need-write_unsigned-requires
 write-unsigned-requires c κs = record { wide = lit≤ tt; room = search rules }
 
-same_length : tie.Need-same-length
+same_length : tie.Need-shape_of-out
 same_length c = search rules
 
 returns : tie.Need-returns
 returns c =
     let w = c.before.before in
-    let a = w.before.before.before.before.args in
-    w.write-unsigned.ensures ∙ ap (put a.out.now a.at) (sym (fields_columns a.ids.now))
+    let a = w.args in
+    w.write_unsigned.ensures ∙ ap (put a.out.now a.at) (sym (fields_columns a.ids.now))
 
-pub write-ids-spec : {M : Type 1} → statement M
-write-ids-spec = tie.close (tie.spec write-unsigned-requires same_length returns)
+pub write_ids_spec : {M : Type 1} → statement M
+write_ids_spec = tie.close (tie.spec write-unsigned-requires same_length returns)

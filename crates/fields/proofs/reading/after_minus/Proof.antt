@@ -8,16 +8,16 @@ use Rattle.fields.specs.Reading.{after}
 use Rattle.fields.proofs.reading.after_minus.Statement.{statement}
 use Rattle.fields.proofs.reading.after_minus.Tie as tie
 
-with-digit-requires : tie.Need-with-digit-requires
+with-digit-requires : tie.Need-with_digit-requires
 with-digit-requires c κs = search rules
 
-returns : tie.Need-returns
+returns : tie.Need-returns-in-48
 unfolding after
-returns c = sym (ap (after Minus) c.match.keys1)
+returns c = sym (ap (after Minus) c.in-48.is)
 
-returns-2 : tie.Need-returns-2
+returns-2 : tie.Need-returns-in_default
 unfolding after
-returns-2 c = c.with-digit.ensures ∙ simp (ne_eqb _ _ c.before.match.rest.1)
+returns-2 c = c.with_digit.ensures ∙ simp (ne_eqb _ _ c.in_default.in_default-own.rest.1)
 
-pub after-minus-spec : {M : Type 1} → statement M
-after-minus-spec = tie.close (tie.spec with-digit-requires returns returns-2)
+pub after_minus_spec : {M : Type 1} → statement M
+after_minus_spec = tie.close (tie.spec with-digit-requires returns returns-2)

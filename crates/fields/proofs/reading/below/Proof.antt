@@ -21,14 +21,14 @@ is-neg c = omega (arith, signed, sub (pos 0) (pos c.args.n), neg (pos c.args.n))
 difference : (c : tie.Start) → SFits w32 (pos 0 -ℤ pos c.args.n)
 difference c = fits (omega (arith, sub (pos 0) (pos c.args.n)))
 
-cast-result : tie.Need-overflow-cast-result
+cast-result : tie.Need-overflow_cast-result
 cast-result c = search rules
 
-sub-result : tie.Need-overflow-sub-result
+sub-result : tie.Need-overflow_sub-result
 sub-result c = simp (size c) (difference c)
 
 returns : tie.Need-returns
 returns c = simp (size c, to_z-of_z (difference c)) (is-neg c)
 
-pub below-spec : {M : Type 1} → statement M
-below-spec = tie.close (tie.spec cast-result sub-result returns)
+pub below_spec : {M : Type 1} → statement M
+below_spec = tie.close (tie.spec cast-result sub-result returns)

@@ -6,14 +6,14 @@ use Rattle.fields.specs.Reading.{unsigned_of}
 use Rattle.fields.proofs.reading.read_unsigned.Statement.{statement}
 use Rattle.fields.proofs.reading.read_unsigned.Tie as tie
 
-seen-at-requires : tie.Need-seen-at-requires
+seen-at-requires : tie.Need-seen_at-requires
 seen-at-requires c κs = search rules
 
-unsigned-of-requires : tie.Need-unsigned-of-requires
+unsigned-of-requires : tie.Need-unsigned_of-requires
 unsigned-of-requires c κs = search rules
 
 returns : tie.Need-returns
-returns c = c.Unsigned-of.ensures ∙ ap unsigned_of c.before.seen_at.ensures
+returns c = c.unsigned_of.ensures ∙ ap unsigned_of c.seen_at.ensures
 
-pub read-unsigned-spec : {M : Type 1} → statement M
-read-unsigned-spec = tie.close (tie.spec seen-at-requires unsigned-of-requires returns)
+pub read_unsigned_spec : {M : Type 1} → statement M
+read_unsigned_spec = tie.close (tie.spec seen-at-requires unsigned-of-requires returns)

@@ -6,54 +6,54 @@ use Rattle.fields.specs.Reading.{unsigned_of}
 use Rattle.fields.proofs.reading.unsigned_of.Statement.{statement}
 use Rattle.fields.proofs.reading.unsigned_of.Tie as tie
 
-enum_told : tie.Need-enum-told
+enum_told : tie.Need-enum_told-1
 enum_told c = search rules
 
-enum-known-seen : tie.Need-enum-known-seen
+enum-known-seen : tie.Need-enum_known-seen
 enum-known-seen c = search rules
 
-unsigned-of-digits-requires : tie.Need-unsigned-of-digits-requires
+unsigned-of-digits-requires : tie.Need-unsigned_of_digits-requires
 unsigned-of-digits-requires c κs = search rules
 
-enum-told-2 : tie.Need-enum-told-2
+enum-told-2 : tie.Need-enum_told-in-Blanks
 enum-told-2 c = search rules
 
-no-unsigned-requires : tie.Need-no-unsigned-requires
+no-unsigned-requires : tie.Need-no_unsigned-requires
 no-unsigned-requires c κs = search rules
 
-enum-told-3 : tie.Need-enum-told-3
+enum-told-3 : tie.Need-enum_told-in-Minus
 enum-told-3 c = search rules
 
-no-unsigned-requires-2 : tie.Need-no-unsigned-requires-2
+no-unsigned-requires-2 : tie.Need-no_unsigned-requires-in-Minus
 no-unsigned-requires-2 c κs = search rules
 
-enum-told-4 : tie.Need-enum-told-4
+enum-told-4 : tie.Need-enum_told-in-Other
 enum-told-4 c = search rules
 
-no-unsigned-requires-3 : tie.Need-no-unsigned-requires-3
+no-unsigned-requires-3 : tie.Need-no_unsigned-requires-in-Other
 no-unsigned-requires-3 c κs = search rules
 
-returns : tie.Need-returns
+returns : tie.Need-returns-in-Zero
 unfolding unsigned_of
-returns c = sym (ap unsigned_of c.enum_told.given.1)
+returns c = sym (ap unsigned_of c.in-Zero.is)
 
-returns-2 : tie.Need-returns-2
-returns-2 c = c.unsigned-of-digits.ensures ∙ sym (ap unsigned_of c.before.before.seen.given.1)
+returns-2 : tie.Need-returns-in-Digits
+returns-2 c = c.unsigned_of_digits.ensures ∙ sym (ap unsigned_of c.in-Digits.is)
 
-returns-3 : tie.Need-returns-3
+returns-3 : tie.Need-returns-in-Blanks
 unfolding unsigned_of
-returns-3 c = c.no_unsigned.ensures ∙ sym (ap unsigned_of c.before.enum-told2.given.1)
+returns-3 c = c.no_unsigned.ensures ∙ sym (ap unsigned_of c.in-Blanks.is)
 
-returns-4 : tie.Need-returns-4
+returns-4 : tie.Need-returns-in-Minus
 unfolding unsigned_of
-returns-4 c = c.no-unsigned2.ensures ∙ sym (ap unsigned_of c.before.enum-told3.given.1)
+returns-4 c = c.no_unsigned-in-Minus.ensures ∙ sym (ap unsigned_of c.in-Minus.is)
 
-returns-5 : tie.Need-returns-5
+returns-5 : tie.Need-returns-in-Other
 unfolding unsigned_of
-returns-5 c = c.no-unsigned3.ensures ∙ sym (ap unsigned_of c.before.enum-told4.given.1)
+returns-5 c = c.no_unsigned-in-Other.ensures ∙ sym (ap unsigned_of c.in-Other.is)
 
-pub unsigned-of-spec : {M : Type 1} → statement M
-unsigned-of-spec =
+pub unsigned_of_spec : {M : Type 1} → statement M
+unsigned_of_spec =
     tie.close
     (tie.spec enum_told enum-known-seen unsigned-of-digits-requires enum-told-2 no-unsigned-requires enum-told-3 no-unsigned-requires-2 enum-told-4
     no-unsigned-requires-3 returns returns-2 returns-3 returns-4 returns-5)

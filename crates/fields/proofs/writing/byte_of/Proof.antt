@@ -6,14 +6,14 @@ use borrow.Author.Rules.{rules}
 use Rattle.fields.proofs.writing.byte_of.Statement.{statement}
 use Rattle.fields.proofs.writing.byte_of.Tie as tie
 
-digit-of-requires : tie.Need-digit-of-requires
+digit-of-requires : tie.Need-digit_of-requires
 digit-of-requires c κs = search rules
 
-returns : tie.Need-returns
-returns c = simp (eq-eqb _ _ c.if1.true)
+returns : tie.Need-returns-then-left-eq0
+returns c = simp (eq-eqb _ _ c.if-left-eq0.true)
 
-returns-2 : tie.Need-returns-2
-returns-2 c = c.digit-of.ensures ∙ simp (ne_eqb _ _ c.before.if1.false)
+returns-2 : tie.Need-returns-else-left-eq0
+returns-2 c = c.digit_of.ensures ∙ simp (ne_eqb _ _ c.if-left-eq0.false)
 
-pub byte-of-spec : {M : Type 1} → statement M
-byte-of-spec = tie.close (tie.spec digit-of-requires returns returns-2)
+pub byte_of_spec : {M : Type 1} → statement M
+byte_of_spec = tie.close (tie.spec digit-of-requires returns returns-2)

@@ -4,11 +4,11 @@ use borrow.Author.Tests.{eq-eqb, ne_eqb}
 use Rattle.fields.proofs.writing.lead_after.Statement.{statement}
 use Rattle.fields.proofs.writing.lead_after.Tie as tie
 
-returns : tie.Need-returns
-returns c = simp (eq-eqb _ _ c.if1.true)
+returns : tie.Need-returns-then-left-eq0
+returns c = simp (eq-eqb _ _ c.if-left-eq0.true)
 
-returns-2 : tie.Need-returns-2
-returns-2 c = simp (ne_eqb _ _ c.if1.false)
+returns-2 : tie.Need-returns-else-left-eq0
+returns-2 c = simp (ne_eqb _ _ c.if-left-eq0.false)
 
-pub lead-after-spec : {M : Type 1} → statement M
-lead-after-spec = tie.close (tie.spec returns returns-2)
+pub lead_after_spec : {M : Type 1} → statement M
+lead_after_spec = tie.close (tie.spec returns returns-2)

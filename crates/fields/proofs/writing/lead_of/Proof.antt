@@ -18,11 +18,11 @@ lead-above : (z : ℤ) → down z ≡ 0 → 32 ≡ lead_of z
 lead-above (pos n) h = refl
 lead-above (negsuc n) h = absurd (omega arith)
 
-returns : tie.Need-returns
-returns c = lead-below c.before.args.z (omega (arith, signed, known c.before.ranges.z))
+returns : tie.Need-returns-then-z-lt0
+returns c = lead-below c.args.z (omega (arith, signed, known c.ranges.z))
 
-returns-2 : tie.Need-returns-2
-returns-2 c = lead-above c.before.args.z (omega (arith, signed, known c.before.ranges.z))
+returns-2 : tie.Need-returns-else-z-lt0
+returns-2 c = lead-above c.args.z (omega (arith, signed, known c.ranges.z))
 
-pub lead-of-spec : {M : Type 1} → statement M
-lead-of-spec = tie.close (tie.spec returns returns-2)
+pub lead_of_spec : {M : Type 1} → statement M
+lead_of_spec = tie.close (tie.spec returns returns-2)

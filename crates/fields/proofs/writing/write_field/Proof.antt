@@ -11,16 +11,16 @@ use Rattle.fields.proofs.WritingLaws.{field_columns}
 use Rattle.fields.proofs.writing.write_field.Statement.{statement}
 use Rattle.fields.proofs.writing.write_field.Tie as tie
 
-lead-of-requires : tie.Need-lead-of-requires
+lead-of-requires : tie.Need-lead_of-requires
 lead-of-requires c κs = search rules
 
-size-of-requires : tie.Need-size-of-requires
+size-of-requires : tie.Need-size_of-requires
 size-of-requires c κs = search rules
 
-write-columns-requires : tie.Need-write-columns-requires
+write-columns-requires : tie.Need-write_columns-requires
 write-columns-requires c κs = search rules
 
-same_length : tie.Need-same-length
+same_length : tie.Need-shape_of-out
 same_length c = search rules
 
 returns : tie.Need-returns
@@ -29,9 +29,9 @@ returns c = let w = c.before.before in
     let l = s.before in
     let a = l.before.before.before in
     let e = held w32 a.args.z a.ranges.z.sfits in
-    w.write-columns.ensures
+    w.write_columns.ensures
     ∙ ap (put a.args.out.now a.args.at)
-    (ap₂ (number_in 10) (l.lead-of.ensures ∙ ap lead_of e) (s.type_size.ensures ∙ ap nat_abs e) ∙ sym (field_columns a.args.z a.requires.writable))
+    (ap₂ (number_in 10) (l.lead_of.ensures ∙ ap lead_of e) (s.size_of.ensures ∙ ap nat_abs e) ∙ sym (field_columns a.args.z a.requires.writable))
 
-pub write-field-spec : {M : Type 1} → statement M
-write-field-spec = tie.close (tie.spec lead-of-requires size-of-requires write-columns-requires same_length returns)
+pub write_field_spec : {M : Type 1} → statement M
+write_field_spec = tie.close (tie.spec lead-of-requires size-of-requires write-columns-requires same_length returns)

@@ -4,11 +4,11 @@ use Rattle.ints.proofs.Machine.{reads}
 use Rattle.grid.proofs.Range.holds.Statement.{statement}
 use Rattle.grid.proofs.Range.holds.Tie as tie
 
-returns : tie.Need-returns
+returns : tie.Need-returns-then-self-z
 returns c = search reads
 
-returns-2 : tie.Need-returns-2
+returns-2 : tie.Need-returns-else-self-z
 returns-2 c = search reads
 
-pub holds-spec : {M : Type 1} → statement M
-holds-spec = tie.close (tie.spec returns returns-2)
+pub holds_spec : {M : Type 1} → statement M
+holds_spec = tie.close (tie.spec returns returns-2)

@@ -11,10 +11,10 @@ use Rattle.grid.proofs.Rect.holds.Tie as tie
 holds-requires : tie.Need-holds-requires
 holds-requires c κs = search rules
 
-holds-requires-2 : tie.Need-holds-requires-2
+holds-requires-2 : tie.Need-holds-requires-then-holds
 holds-requires-2 c κs = search rules
 
-returns : tie.Need-returns
+returns : tie.Need-returns-then-holds
 unfolding in_rect
 returns c =
     let a = c.before.before.before in
@@ -22,11 +22,11 @@ returns c =
     search
     (both, tested₁ w64 (between q.x.low q.x.high), tested₁ w64 (between q.y.low q.y.high))
 
-returns-2 : tie.Need-returns-2
+returns-2 : tie.Need-returns-else-holds
 unfolding in_rect
 returns-2 c =
-    let q = c.before.before.args.self in
+    let q = c.args.self in
     search (neither, tested₁ w64 (between q.x.low q.x.high))
 
-pub holds-spec : {M : Type 1} → statement M
-holds-spec = tie.close (tie.spec holds-requires holds-requires-2 returns returns-2)
+pub holds_spec : {M : Type 1} → statement M
+holds_spec = tie.close (tie.spec holds-requires holds-requires-2 returns returns-2)

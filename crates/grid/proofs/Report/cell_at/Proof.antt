@@ -9,23 +9,23 @@ use Rattle.grid.specs.Reports.{x_at, y_at}
 use Rattle.grid.proofs.Report.cell_at.Statement.{statement}
 use Rattle.grid.proofs.Report.cell_at.Tie as tie
 
-x-at-requires : tie.Need-x-at-requires
+x-at-requires : tie.Need-x_at-requires
 x-at-requires c κs = search rules
 
-y-at-requires : tie.Need-y-at-requires
+y-at-requires : tie.Need-y_at-requires
 y-at-requires c κs = search rules
 
-cell-of-requires : tie.Need-cell-of-requires
+cell-of-requires : tie.Need-cell_of-requires
 cell-of-requires c κs = search rules
 
 returns : tie.Need-returns
 returns c =
-    let a = c.before.before.before.args in
-    let x = c.before.before.x-at in
-    let y = c.before.y-at in
-    tested₂ w64 cell_of c.cell-of.result x.result y.result c.cell-of.ensures (search rules) (search rules)
+    let a = c.args in
+    let x = c.x_at in
+    let y = c.y_at in
+    tested₂ w64 cell_of c.cell_of.result x.result y.result c.cell_of.ensures (search rules) (search rules)
     ∙ simp
     (tested₁ w64 (x_at a.self) x.result a.s x.ensures (search rules), tested₁ w64 (y_at a.self) y.result a.s y.ensures (search rules))
 
-pub cell-at-spec : {M : Type 1} → statement M
-cell-at-spec = tie.close (tie.spec x-at-requires y-at-requires cell-of-requires returns)
+pub cell_at_spec : {M : Type 1} → statement M
+cell_at_spec = tie.close (tie.spec x-at-requires y-at-requires cell-of-requires returns)

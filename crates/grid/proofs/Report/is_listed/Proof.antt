@@ -12,23 +12,23 @@ use Rattle.grid.proofs.Report.is_listed.Tie as tie
 last-requires : tie.Need-last-requires
 last-requires c κs = search rules
 
-is-inside-requires : tie.Need-is-inside-requires
+is-inside-requires : tie.Need-is_inside-requires
 is-inside-requires c κs = search rules
 
 -- the test of the report's time is that of the definition
 module _ (c : tie.After-last) where
   reported-is :
-      le_z (back w32 c.before.args.self.t) (back w32 c.last.result)
-      ≡ le_z c.before.args.self.t (last_of c.before.args.query.when)
-  reported-is = ap₂ le_z (held w32 c.before.args.self.t (search rules)) (got w32 c.last.result _ (search rules) c.last.ensures)
+      le_z (back w32 c.args.self.t) (back w32 c.last.result)
+      ≡ le_z c.args.self.t (last_of c.args.query.when)
+  reported-is = ap₂ le_z (held w32 c.args.self.t (search rules)) (got w32 c.last.result _ (search rules) c.last.ensures)
 
-returns : tie.Need-returns
+returns : tie.Need-returns-then-self-last
 unfolding is_listed
-returns c = let l = c.before.before.before.before in both _ c.is_inside.result _ _ c.before.if1.true (reported-is l) c.is_inside.ensures
+returns c = let l = c.before.before.before.before in both _ c.is_inside.result _ _ c.if-self-last.true (reported-is l) c.is_inside.ensures
 
-returns-2 : tie.Need-returns-2
+returns-2 : tie.Need-returns-else-self-last
 unfolding is_listed
-returns-2 c = let l = c.before.before.before in neither _ _ _ c.if1.false (reported-is l)
+returns-2 c = let l = c.before.before.before in neither _ _ _ c.if-self-last.false (reported-is l)
 
-pub is-listed-spec : {M : Type 1} → statement M
-is-listed-spec = tie.close (tie.spec last-requires is-inside-requires returns returns-2)
+pub is_listed_spec : {M : Type 1} → statement M
+is_listed_spec = tie.close (tie.spec last-requires is-inside-requires returns returns-2)

@@ -8,18 +8,18 @@ use Rattle.grid.specs.Reports.{x_at}
 use Rattle.grid.proofs.Report.x_at.Statement.{statement}
 use Rattle.grid.proofs.Report.x_at.Tie as tie
 
-position-at-requires : tie.Need-position-at-requires
+position-at-requires : tie.Need-position_at-requires
 position-at-requires c κs = search rules
 
 returns : tie.Need-returns
 unfolding x_at
 returns c =
-    let a = c.before.before.before.before.args in
+    let a = c.args in
     let r = a.self in
     held w64 c.position_at.result (search rules)
     ∙ (c.position_at.ensures
     ∙ simp
     (held w32 r.x (search rules), held w32 r.vx (search rules), held w32 r.t (search rules), held w64 a.s (search rules)))
 
-pub x-at-spec : {M : Type 1} → statement M
-x-at-spec = tie.close (tie.spec position-at-requires returns)
+pub x_at_spec : {M : Type 1} → statement M
+x_at_spec = tie.close (tie.spec position-at-requires returns)

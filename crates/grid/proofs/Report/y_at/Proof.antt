@@ -8,18 +8,18 @@ use Rattle.grid.specs.Reports.{y_at}
 use Rattle.grid.proofs.Report.y_at.Statement.{statement}
 use Rattle.grid.proofs.Report.y_at.Tie as tie
 
-position-at-requires : tie.Need-position-at-requires
+position-at-requires : tie.Need-position_at-requires
 position-at-requires c κs = search rules
 
 returns : tie.Need-returns
 unfolding y_at
 returns c =
-    let a = c.before.before.before.before.args in
+    let a = c.args in
     let r = a.self in
     held w64 c.position_at.result (search rules)
     ∙ (c.position_at.ensures
     ∙ simp
     (held w32 r.y (search rules), held w32 r.vy (search rules), held w32 r.t (search rules), held w64 a.s (search rules)))
 
-pub y-at-spec : {M : Type 1} → statement M
-y-at-spec = tie.close (tie.spec position-at-requires returns)
+pub y_at_spec : {M : Type 1} → statement M
+y_at_spec = tie.close (tie.spec position-at-requires returns)

@@ -9,5 +9,5 @@ returns : tie.Need-returns
 unfolding Tables.curve
 returns c = record { numbered = table_number }
 
-pub curve-numbers-spec : {M : Type 1} → statement M
-curve-numbers-spec = tie.close (tie.spec returns)
+pub curve_numbers_spec : {M : Type 1} → statement M
+curve_numbers_spec = tie.close (tie.spec returns)

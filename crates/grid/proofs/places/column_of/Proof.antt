@@ -7,17 +7,17 @@ use Rattle.grid.proofs.PlacesLaws.{column_is}
 use Rattle.grid.proofs.places.column_of.Statement.{statement}
 use Rattle.grid.proofs.places.column_of.Tie as tie
 
-returns : tie.Need-returns
-returns c = omega (arith, signed, known c.before.ranges.x, column_is c.before.args.x)
+returns : tie.Need-returns-then-x-lt0
+returns c = omega (arith, signed, known c.ranges.x, column_is c.args.x)
 
-cast-c : tie.Need-overflow-cast-c
-cast-c c = omega (arith, signed, known c.before.ranges.x)
+cast-c : tie.Need-overflow_cast-c
+cast-c c = omega (arith, signed, known c.ranges.x)
 
-returns-2 : tie.Need-returns-2
-returns-2 c = omega (arith, signed, known c.before.before.ranges.x, column_is c.before.before.args.x)
+returns-2 : tie.Need-returns-then-c-lt-LAST
+returns-2 c = omega (arith, signed, known c.ranges.x, column_is c.args.x)
 
-returns-3 : tie.Need-returns-3
-returns-3 c = omega (arith, signed, known c.before.before.ranges.x, column_is c.before.before.args.x)
+returns-3 : tie.Need-returns-else-c-lt-LAST
+returns-3 c = omega (arith, signed, known c.ranges.x, column_is c.args.x)
 
-pub column-of-spec : {M : Type 1} → statement M
-column-of-spec = tie.close (tie.spec returns cast-c returns-2 returns-3)
+pub column_of_spec : {M : Type 1} → statement M
+column_of_spec = tie.close (tie.spec returns cast-c returns-2 returns-3)

@@ -19,14 +19,14 @@ total c =
     (omega
     (arith, abs c.args.x, add c.args.x (c.args.v *ℤ c.args.elapsed), mul_small c.args.v c.args.elapsed _ _ c.requires.small_v c.requires.small_elapsed))
 
-mul-result : tie.Need-overflow-mul-result
+mul-result : tie.Need-overflow_mul-result
 mul-result c = simp (to_z-of_z, c.ranges.v, c.ranges.elapsed) (product c)
 
-add-result : tie.Need-overflow-add-result
+add-result : tie.Need-overflow_add-result
 add-result c = simp (to_z-of_z, c.ranges.x, c.ranges.v, c.ranges.elapsed, product c) (total c)
 
 returns : tie.Need-returns
 returns c = simp (to_z-of_z, c.ranges.x, c.ranges.v, c.ranges.elapsed, product c, total c)
 
-pub position-after-spec : {M : Type 1} → statement M
-position-after-spec = tie.close (tie.spec mul-result add-result returns)
+pub position_after_spec : {M : Type 1} → statement M
+position_after_spec = tie.close (tie.spec mul-result add-result returns)

@@ -4,14 +4,14 @@ use Rattle.grid.proofs.SmallLaws.{multiplies, turn_told}
 use Rattle.grid.proofs.moments.Passage.in_turn.Statement.{statement}
 use Rattle.grid.proofs.moments.Passage.in_turn.Tie as tie
 
-mul-result : tie.Need-overflow-mul-result
+mul-result : tie.Need-overflow_mul-result
 mul-result c = search multiplies
 
-mul-result-2 : tie.Need-overflow-mul-result-2
+mul-result-2 : tie.Need-overflow_mul-result-2
 mul-result-2 c = search multiplies
 
 returns : tie.Need-returns
 returns c = search turn_told
 
-pub in-turn-spec : {M : Type 1} → statement M
-in-turn-spec = tie.close (tie.spec mul-result mul-result-2 returns)
+pub in_turn_spec : {M : Type 1} → statement M
+in_turn_spec = tie.close (tie.spec mul-result mul-result-2 returns)
