@@ -4,11 +4,11 @@ use Rattle.ints.proofs.Machine.{reads}
 use Rattle.rows.proofs.greatest.Statement.{statement}
 use Rattle.rows.proofs.greatest.Tie as tie
 
-returns : tie.Need-returns
+returns : tie.Need-returns-then-a-b
 returns c = search reads
 
-returns-2 : tie.Need-returns-2
+returns-2 : tie.Need-returns-else-a-b
 returns-2 c = search reads
 
-pub greatest-spec : {M : Type 1} → statement M
-greatest-spec = tie.close (tie.spec returns returns-2)
+pub greatest_spec : {M : Type 1} → statement M
+greatest_spec = tie.close (tie.spec returns returns-2)

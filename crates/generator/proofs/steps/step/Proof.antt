@@ -15,7 +15,7 @@ mapped-requires c κs = search rules
 returns : tie.Need-returns
 returns c =
     let o = c.before in
-    c.mapped.ensures ∙ ap (λ (f : Affine). mapped f o.before.args.s) o.one.ensures
+    c.mapped.ensures ∙ ap (λ (f : Affine). mapped f o.args.s) o.one.ensures
 
 pub step_spec : {M : Type 1} → statement M
 step_spec = tie.close (tie.spec one-requires mapped-requires returns)

@@ -14,7 +14,7 @@ same-requires c κs = search rules
 
 returns : tie.Need-returns
 unfolding is_empty
-returns c = c.same.ensures ∙ ap (same_row c.before.before.args.self) c.before.empty.ensures
+returns c = c.same.ensures ∙ ap (same_row c.args.self) c.empty.ensures
 
 pub is_empty_spec : {M : Type 1} → statement M
 is_empty_spec = tie.close (tie.spec empty-requires same-requires returns)

@@ -9,23 +9,23 @@ use Rattle.rows.proofs.RowLaws.{valid_parts}
 use Rattle.rows.proofs.Row.is_valid.Statement.{statement}
 use Rattle.rows.proofs.Row.is_valid.Tie as tie
 
-empty-axis-requires : tie.Need-empty-axis-requires
+empty-axis-requires : tie.Need-empty_axis-empty_x-requires
 empty-axis-requires c κs = search rules
 
-empty-axis-requires-2 : tie.Need-empty-axis-requires-2
+empty-axis-requires-2 : tie.Need-empty_axis-empty_y-requires
 empty-axis-requires-2 c κs = search rules
 
-valid-axis-requires : tie.Need-valid-axis-requires
+valid-axis-requires : tie.Need-valid_axis-valid_x-requires
 valid-axis-requires c κs = search rules
 
-valid-axis-requires-2 : tie.Need-valid-axis-requires-2
+valid-axis-requires-2 : tie.Need-valid_axis-valid_y-requires
 valid-axis-requires-2 c κs = search rules
 
 returns : tie.Need-returns
 returns c = search (valid_parts, tested₂ w16 empty_axis, tested₂ w16 valid_axis)
 
-pub is-valid-spec : {M : Type 1} → statement M
-is-valid-spec =
+pub is_valid_spec : {M : Type 1} → statement M
+is_valid_spec =
     tie.close
     (tie.spec
     empty-axis-requires

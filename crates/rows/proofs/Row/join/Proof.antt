@@ -30,7 +30,7 @@ returns c =
     (search (called₂ w16 min_z))
     (search (called₂ w16 max_z))
 
-pub join-spec : {M : Type 1} → statement M
-join-spec =
+pub join_spec : {M : Type 1} → statement M
+join_spec =
     tie.close
     (tie.spec least-requires greatest-requires least-requires-2 greatest-requires-2 returns)

@@ -6,16 +6,16 @@ use Rattle.rows.specs.Phases.{is_live}
 use Rattle.rows.proofs.phases.is_live.Statement.{statement}
 use Rattle.rows.proofs.phases.is_live.Tie as tie
 
-add-result : tie.Need-overflow-add-result
+add-result : tie.Need-overflow_add-result
 add-result c = search rules
 
-returns : tie.Need-returns
+returns : tie.Need-returns-then-p-c
 unfolding is_live
-returns c = simp (le-leb c.before.args.p c.before.args.c c.if1.true)
+returns c = simp (le-leb c.args.p c.args.c c.if-p-c.true)
 
-returns-2 : tie.Need-returns-2
+returns-2 : tie.Need-returns-else-p-c
 unfolding is_live
-returns-2 c = simp (lt-leb c.before.args.p c.before.args.c c.if1.false)
+returns-2 c = simp (lt-leb c.args.p c.args.c c.if-p-c.false)
 
-pub is-live-spec : {M : Type 1} → statement M
-is-live-spec = tie.close (tie.spec add-result returns returns-2)
+pub is_live_spec : {M : Type 1} → statement M
+is_live_spec = tie.close (tie.spec add-result returns returns-2)

@@ -7,14 +7,14 @@ use Rattle.rows.proofs.PhasesLaws.{phase_is}
 use Rattle.rows.proofs.phases.phase_of.Statement.{statement}
 use Rattle.rows.proofs.phases.phase_of.Tie as tie
 
-returns : tie.Need-returns
-returns c = omega (arith, signed, known c.before.ranges.t, phase_is c.before.args.t)
+returns : tie.Need-returns-then-t-lt0
+returns c = omega (arith, signed, known c.ranges.t, phase_is c.args.t)
 
-cast-result : tie.Need-overflow-cast-result
-cast-result c = omega (arith, signed, known c.before.ranges.t)
+cast-result : tie.Need-overflow_cast-result
+cast-result c = omega (arith, signed, known c.ranges.t)
 
-returns-2 : tie.Need-returns-2
-returns-2 c = omega (arith, signed, known c.before.ranges.t, phase_is c.before.args.t)
+returns-2 : tie.Need-returns
+returns-2 c = omega (arith, signed, known c.ranges.t, phase_is c.args.t)
 
-pub phase-of-spec : {M : Type 1} → statement M
-phase-of-spec = tie.close (tie.spec returns cast-result returns-2)
+pub phase_of_spec : {M : Type 1} → statement M
+phase_of_spec = tie.close (tie.spec returns cast-result returns-2)

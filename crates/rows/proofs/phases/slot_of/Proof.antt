@@ -9,5 +9,5 @@ returns : tie.Need-returns
 unfolding slot_of
 returns c = refl
 
-pub slot-of-spec : {M : Type 1} → statement M
-slot-of-spec = tie.close (tie.spec returns)
+pub slot_of_spec : {M : Type 1} → statement M
+slot_of_spec = tie.close (tie.spec returns)

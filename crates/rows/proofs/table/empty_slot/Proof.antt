@@ -9,39 +9,39 @@ use Rattle.rows.specs.Table.{with_slot_empty, slot_words}
 use Rattle.rows.proofs.table.empty_slot.Statement.{statement}
 use Rattle.rows.proofs.table.empty_slot.Tie as tie
 
-mul-start : tie.Need-overflow-mul-start
+mul-start : tie.Need-overflow_mul-start
 mul-start c = search rules
 
-add-end : tie.Need-overflow-add-end
+add-end : tie.Need-overflow_add-end
 add-end c = search rules
 
-mul-empty-rows : tie.Need-overflow-mul-empty-rows
+mul-empty-rows : tie.Need-offset_bounds-table-start
 mul-empty-rows c = search rules
 
-sub-empty-rows : tie.Need-overflow-sub-empty-rows
+sub-empty-rows : tie.Need-slice_bounds-empty_rows-count
 sub-empty-rows c = search rules
 
-part-empty-rows-start : tie.Need-slice-bounds-empty-rows-start
+part-empty-rows-start : tie.Need-slice_bounds-empty_rows-start
 part-empty-rows-start c = search rules
 
-part-empty-rows-end : tie.Need-slice-bounds-empty-rows-end
+part-empty-rows-end : tie.Need-slice_bounds-empty_rows-end
 part-empty-rows-end c = search rules
 
-empty-rows-requires : tie.Need-empty-rows-requires
+empty-rows-requires : tie.Need-empty_rows-requires
 empty-rows-requires c κs = search rules
 
-same_length : tie.Need-same-length
+same_length : tie.Need-shape_of-table
 same_length c = search rules
 
 returns : tie.Need-returns
 unfolding with_slot_empty
 returns c =
-    let a = slot_words * c.before.before.before.args.slot in
+    let a = slot_words * c.args.slot in
     let e : a + (a + slot_words - a) ≡ a + slot_words = omega arith in
-    simp (c.before.empty-rows.ensures, drop-drop, e)
+    simp (c.empty_rows.ensures, drop-drop, e)
 
-pub empty-slot-spec : {M : Type 1} → statement M
-empty-slot-spec =
+pub empty_slot_spec : {M : Type 1} → statement M
+empty_slot_spec =
     tie.close
     (tie.spec
     mul-start

@@ -8,16 +8,16 @@ use Rattle.rows.specs.Table.{with_slot_empty}
 use Rattle.rows.proofs.table.empty_table.Statement.{statement}
 use Rattle.rows.proofs.table.empty_table.Tie as tie
 
-empty-slot-requires : tie.Need-empty-slot-requires
+empty-slot-requires : tie.Need-empty_slot-requires
 empty-slot-requires c κs = search rules
 
-empty-slot-requires-2 : tie.Need-empty-slot-requires-2
+empty-slot-requires-2 : tie.Need-empty_slot-requires-2
 empty-slot-requires-2 c κs = search rules
 
-empty-slot-requires-3 : tie.Need-empty-slot-requires-3
+empty-slot-requires-3 : tie.Need-empty_slot-requires-3
 empty-slot-requires-3 c κs = search rules
 
-same_length : tie.Need-same-length
+same_length : tie.Need-shape_of-table
 same_length c = search rules
 
 returns : tie.Need-returns
@@ -25,10 +25,10 @@ returns c =
     let third = c.before in
     let second = third.before.before.before in
     let first = second.before.before.before in
-    third.empty-slot3.ensures
-    ∙ ap (λ (table : List ℤ). with_slot_empty table 2) (second.empty-slot2.ensures ∙ ap (λ (table : List ℤ). with_slot_empty table 1) first.empty-slot.ensures)
+    third.empty_slot-3.ensures
+    ∙ ap (λ (table : List ℤ). with_slot_empty table 2) (second.empty_slot-2.ensures ∙ ap (λ (table : List ℤ). with_slot_empty table 1) first.empty_slot.ensures)
 
-pub empty-table-spec : {M : Type 1} → statement M
-empty-table-spec =
+pub empty_table_spec : {M : Type 1} → statement M
+empty_table_spec =
     tie.close
     (tie.spec empty-slot-requires empty-slot-requires-2 empty-slot-requires-3 same_length returns)

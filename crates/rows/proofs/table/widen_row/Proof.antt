@@ -11,13 +11,13 @@ use Rattle.rows.proofs.table.widen_row.Tie as tie
 read-requires : tie.Need-read-requires
 read-requires c κs = search rules
 
-widen-copy-requires : tie.Need-widen-copy-requires
+widen-copy-requires : tie.Need-widen_copy-row-requires
 widen-copy-requires c κs = search rules
 
 write-requires : tie.Need-write-requires
 write-requires c κs = search rules
 
-same_length : tie.Need-same-length
+same_length : tie.Need-shape_of-table
 same_length c = search rules
 
 returns : tie.Need-returns
@@ -25,10 +25,10 @@ returns c =
     let w = c.before in
     let d = w.before.before in
     let r = d.before in
-    let e = r.before.before in
+    let e = r.before in
     w.write.ensures
     ∙ ap (with_row e.args.table.now e.args.slot e.args.number)
-    (d.widen-copy.ensures ∙ ap (λ (x : Row). widened x e.args.drift) r.read.ensures)
+    (d.widen_copy-row.ensures ∙ ap (λ (x : Row). widened x e.args.drift) r.read.ensures)
 
-pub widen-row-spec : {M : Type 1} → statement M
-widen-row-spec = tie.close (tie.spec read-requires widen-copy-requires write-requires same_length returns)
+pub widen_row_spec : {M : Type 1} → statement M
+widen_row_spec = tie.close (tie.spec read-requires widen-copy-requires write-requires same_length returns)
