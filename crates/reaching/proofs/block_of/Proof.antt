@@ -9,16 +9,16 @@ use borrow.Author.Rules.{rules}
 use Rattle.reaching.proofs.block_of.Statement.{statement}
 use Rattle.reaching.proofs.block_of.Tie as tie
 
-column-of-requires : tie.Need-column-of-requires
+column-of-requires : tie.Need-column_of-requires
 column-of-requires c κs = search rules
 
-column-of-requires-2 : tie.Need-column-of-requires-2
+column-of-requires-2 : tie.Need-column_of-requires-2
 column-of-requires-2 c κs = search rules
 
-row-of-requires : tie.Need-row-of-requires
+row-of-requires : tie.Need-row_of-requires
 row-of-requires c κs = search rules
 
-row-of-requires-2 : tie.Need-row-of-requires-2
+row-of-requires-2 : tie.Need-row_of-requires-2
 row-of-requires-2 c κs = search rules
 
 returns : tie.Need-returns
@@ -30,7 +30,7 @@ returns c =
     (search (tested₁ w64 row_of))
     (search (tested₁ w64 row_of))
 
-pub block-of-spec : {M : Type 1} → statement M
-block-of-spec =
+pub block_of_spec : {M : Type 1} → statement M
+block_of_spec =
     tie.close
     (tie.spec column-of-requires column-of-requires-2 row-of-requires row-of-requires-2 returns)

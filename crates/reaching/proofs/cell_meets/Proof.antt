@@ -8,38 +8,34 @@ use Rattle.reaching.specs.Reaching.{IsViewAsk}
 use Rattle.reaching.proofs.cell_meets.Statement.{statement}
 use Rattle.reaching.proofs.cell_meets.Tie as tie
 
-enum-known-v : tie.Need-enum-known-v
+enum-known-v : tie.Need-enum_known-v
 enum-known-v c = search rules
 
-slice-meets-requires : tie.Need-slice-meets-requires
+slice-meets-requires : tie.Need-slice_meets-requires
 slice-meets-requires c κs =
-    let k = c.before.v in
-    let pre = c.before.before.before.requires in
-    record { ask = subst IsViewAsk k.given.1 pre.ask; on_grid = pre.on_grid; valid = pre.valid }
+    let pre = c.requires in
+    record { ask = subst IsViewAsk c.in-Slice.is pre.ask; on_grid = pre.on_grid; valid = pre.valid }
 
-enum-known-v-2 : tie.Need-enum-known-v-2
+enum-known-v-2 : tie.Need-enum_known-v-in-Window-1
 enum-known-v-2 c = search rules
 
-window-meets-requires : tie.Need-window-meets-requires
+window-meets-requires : tie.Need-window_meets-requires
 window-meets-requires c κs =
-    let k = c.before.v2 in
-    let pre = c.before.before.before.requires in
-    record { ask = subst IsViewAsk k.given.1 pre.ask; on_grid = pre.on_grid; valid = pre.valid }
+    let pre = c.requires in
+    record { ask = subst IsViewAsk c.in-Window.is pre.ask; on_grid = pre.on_grid; valid = pre.valid }
 
-returns : tie.Need-returns
+returns : tie.Need-returns-in-Slice
 returns c =
-    let k = c.before.before.v in
-    let a = c.before.before.before.before.args in
-    c.slice-meets.ensures ∙ sym (ap (λ (v : View). (aim_of v).meets a.c a.row) k.given.1)
+    let a = c.args in
+    c.slice_meets.ensures ∙ sym (ap (λ (v : View). (aim_of v).meets a.c a.row) c.in-Slice.is)
 
-returns-2 : tie.Need-returns-2
+returns-2 : tie.Need-returns-in-Window
 returns-2 c =
-    let k = c.before.before.v2 in
-    let a = c.before.before.before.before.args in
-    c.window-meets.ensures ∙ sym (ap (λ (v : View). (aim_of v).meets a.c a.row) k.given.1)
+    let a = c.args in
+    c.window_meets.ensures ∙ sym (ap (λ (v : View). (aim_of v).meets a.c a.row) c.in-Window.is)
 
-pub cell-meets-spec : {M : Type 1} → statement M
-cell-meets-spec =
+pub cell_meets_spec : {M : Type 1} → statement M
+cell_meets_spec =
     tie.close
     (tie.spec
     enum-known-v

@@ -5,16 +5,16 @@ use borrow.Author.Rules.{rules}
 use Rattle.reaching.proofs.ends_from.Statement.{statement}
 use Rattle.reaching.proofs.ends_from.Tie as tie
 
-sub-result : tie.Need-overflow-sub-result
+sub-result : tie.Need-overflow_sub-result
 sub-result c = search rules
 
-mul-whole : tie.Need-overflow-mul-whole
+mul-whole : tie.Need-overflow_mul-i
 mul-whole c = search rules
 
-sub-whole : tie.Need-overflow-sub-whole
+sub-whole : tie.Need-overflow_sub-whole
 sub-whole c = search rules
 
-add-whole : tie.Need-overflow-add-whole
+add-whole : tie.Need-overflow_add-i
 add-whole c = search rules
 
 whole-requires : tie.Need-whole-requires
@@ -23,6 +23,6 @@ whole-requires c κs = search rules
 returns : tie.Need-returns
 returns c = search high_end
 
-pub ends-from-spec : {M : Type 1} → statement M
-ends-from-spec =
+pub ends_from_spec : {M : Type 1} → statement M
+ends_from_spec =
     tie.close (tie.spec sub-result mul-whole sub-whole add-whole whole-requires returns)

@@ -8,38 +8,34 @@ use Rattle.reaching.specs.Reaching.{IsViewAsk}
 use Rattle.reaching.proofs.expanded.Statement.{statement}
 use Rattle.reaching.proofs.expanded.Tie as tie
 
-enum-known-v : tie.Need-enum-known-v
+enum-known-v : tie.Need-enum_known-v
 enum-known-v c = search rules
 
-expanded-slice-requires : tie.Need-expanded-slice-requires
+expanded-slice-requires : tie.Need-expanded_slice-requires
 expanded-slice-requires c κs =
-    let k = c.before.v in
-    let pre = c.before.before.before.requires in
-    record { ask = subst IsViewAsk k.given.1 pre.ask; valid = pre.valid }
+    let pre = c.requires in
+    record { ask = subst IsViewAsk c.in-Slice.is pre.ask; valid = pre.valid }
 
-enum-known-v-2 : tie.Need-enum-known-v-2
+enum-known-v-2 : tie.Need-enum_known-v-in-Window-1
 enum-known-v-2 c = search rules
 
-expanded-window-requires : tie.Need-expanded-window-requires
+expanded-window-requires : tie.Need-expanded_window-requires
 expanded-window-requires c κs =
-    let k = c.before.v2 in
-    let pre = c.before.before.before.requires in
-    record { ask = subst IsViewAsk k.given.1 pre.ask; valid = pre.valid }
+    let pre = c.requires in
+    record { ask = subst IsViewAsk c.in-Window.is pre.ask; valid = pre.valid }
 
-returns : tie.Need-returns
+returns : tie.Need-returns-in-Slice
 returns c =
-    let k = c.before.before.v in
-    let a = c.before.before.before.before.args in
-    c.expanded-slice.ensures ∙ sym (ap (λ (v : View). (aim_of v).expanded a.bounds) k.given.1)
+    let a = c.args in
+    c.expanded_slice.ensures ∙ sym (ap (λ (v : View). (aim_of v).expanded a.bounds) c.in-Slice.is)
 
-returns-2 : tie.Need-returns-2
+returns-2 : tie.Need-returns-in-Window
 returns-2 c =
-    let k = c.before.before.v2 in
-    let a = c.before.before.before.before.args in
-    c.expanded-window.ensures ∙ sym (ap (λ (v : View). (aim_of v).expanded a.bounds) k.given.1)
+    let a = c.args in
+    c.expanded_window.ensures ∙ sym (ap (λ (v : View). (aim_of v).expanded a.bounds) c.in-Window.is)
 
-pub expanded-spec : {M : Type 1} → statement M
-expanded-spec =
+pub expanded_spec : {M : Type 1} → statement M
+expanded_spec =
     tie.close
     (tie.spec
     enum-known-v

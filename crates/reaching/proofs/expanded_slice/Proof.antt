@@ -6,15 +6,15 @@ use borrow.Author.Rules.{rules}
 use Rattle.reaching.proofs.expanded_slice.Statement.{statement}
 use Rattle.reaching.proofs.expanded_slice.Tie as tie
 
-expand-range-requires : tie.Need-expand-range-requires
+expand-range-requires : tie.Need-expand_range-requires
 expand-range-requires c κs = search (rules, axis_back, small_x)
 
-expand-range-requires-2 : tie.Need-expand-range-requires-2
+expand-range-requires-2 : tie.Need-expand_range-requires-2
 expand-range-requires-2 c κs = search (rules, axis_back, small_y)
 
 returns : tie.Need-returns
 unfolding expanded_rect
 returns c = same_rect (search expanded_called) (search expanded_called)
 
-pub expanded-slice-spec : {M : Type 1} → statement M
-expanded-slice-spec = tie.close (tie.spec expand-range-requires expand-range-requires-2 returns)
+pub expanded_slice_spec : {M : Type 1} → statement M
+expanded_slice_spec = tie.close (tie.spec expand-range-requires expand-range-requires-2 returns)

@@ -19,14 +19,14 @@ total c =
     (omega
     (arith, abs c.args.p, sub c.args.p (c.args.v *ℤ c.args.d), mul_small c.args.v c.args.d _ _ c.requires.small_speed c.requires.small_d))
 
-mul-result : tie.Need-overflow-mul-result
+mul-result : tie.Need-overflow_mul-result
 mul-result c = simp (to_z-of_z, c.ranges.v, c.ranges.d) (product c)
 
-sub-result : tie.Need-overflow-sub-result
+sub-result : tie.Need-overflow_sub-result
 sub-result c = simp (to_z-of_z, c.ranges.p, c.ranges.v, c.ranges.d, product c) (total c)
 
 returns : tie.Need-returns
 returns c = simp (to_z-of_z, c.ranges.p, c.ranges.v, c.ranges.d, product c, total c)
 
-pub position-before-spec : {M : Type 1} → statement M
-position-before-spec = tie.close (tie.spec mul-result sub-result returns)
+pub position_before_spec : {M : Type 1} → statement M
+position_before_spec = tie.close (tie.spec mul-result sub-result returns)

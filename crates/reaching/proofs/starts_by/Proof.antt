@@ -5,7 +5,7 @@ use borrow.Author.Rules.{rules}
 use Rattle.reaching.proofs.starts_by.Statement.{statement}
 use Rattle.reaching.proofs.starts_by.Tie as tie
 
-mul-whole : tie.Need-overflow-mul-whole
+mul-whole : tie.Need-overflow_mul-i
 mul-whole c = search rules
 
 whole-requires : tie.Need-whole-requires
@@ -14,5 +14,5 @@ whole-requires c κs = search rules
 returns : tie.Need-returns
 returns c = search low_end
 
-pub starts-by-spec : {M : Type 1} → statement M
-starts-by-spec = tie.close (tie.spec mul-whole whole-requires returns)
+pub starts_by_spec : {M : Type 1} → statement M
+starts_by_spec = tie.close (tie.spec mul-whole whole-requires returns)

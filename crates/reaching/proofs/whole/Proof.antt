@@ -8,11 +8,11 @@ use borrow.Author.Rules.{rules}
 use Rattle.reaching.proofs.whole.Statement.{statement}
 use Rattle.reaching.proofs.whole.Tie as tie
 
-cast-result : tie.Need-overflow-cast-result
+cast-result : tie.Need-overflow_cast-result
 cast-result c = search rules
 
 returns : tie.Need-returns
 returns c = held w64 (pos c.args.n) (omega arith)
 
-pub whole-spec : {M : Type 1} → statement M
-whole-spec = tie.close (tie.spec cast-result returns)
+pub whole_spec : {M : Type 1} → statement M
+whole_spec = tie.close (tie.spec cast-result returns)

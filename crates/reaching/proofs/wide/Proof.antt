@@ -5,7 +5,7 @@ use Rattle.ints.proofs.Machine.{wide_fits, wide_back}
 use Rattle.reaching.proofs.wide.Statement.{statement}
 use Rattle.reaching.proofs.wide.Tie as tie
 
-cast-result : tie.Need-overflow-cast-result
+cast-result : tie.Need-overflow_cast-result
 cast-result c = search (wide_fits w16 w64 tt)
 
 returns : tie.Need-returns

@@ -10,17 +10,17 @@ use Rattle.ints.proofs.Machine.{known}
 use Rattle.records.proofs.held_of.Statement.{statement}
 use Rattle.records.proofs.held_of.Tie as tie
 
-shared-slice-copy-out-n : tie.Need-shared-slice-copy-out-n
+shared-slice-copy-out-n : tie.Need-bounds-store-1
 shared-slice-copy-out-n c = search rules
 
-returns : tie.Need-returns
-returns c = omega (arith, signed, known (sfits_of {w = w32} {z = get_or c.before.before.args.store.now 1 (pos 0)} c.before.n.given))
+returns : tie.Need-returns-then-n-lt0
+returns c = omega (arith, signed, known (sfits_of {w = w32} {z = get_or c.args.store.now 1 (pos 0)} c.n-1.given))
 
-cast-result : tie.Need-overflow-cast-result
-cast-result c = omega (arith, signed, known (sfits_of {w = w32} {z = get_or c.before.before.args.store.now 1 (pos 0)} c.before.n.given))
+cast-result : tie.Need-overflow_cast-result
+cast-result c = omega (arith, signed, known (sfits_of {w = w32} {z = get_or c.args.store.now 1 (pos 0)} c.n-1.given))
 
-returns-2 : tie.Need-returns-2
-returns-2 c = omega (arith, signed, known (sfits_of {w = w32} {z = get_or c.before.before.args.store.now 1 (pos 0)} c.before.n.given))
+returns-2 : tie.Need-returns
+returns-2 c = omega (arith, signed, known (sfits_of {w = w32} {z = get_or c.args.store.now 1 (pos 0)} c.n-1.given))
 
-pub held-of-spec : {M : Type 1} → statement M
-held-of-spec = tie.close (tie.spec shared-slice-copy-out-n returns cast-result returns-2)
+pub held_of_spec : {M : Type 1} → statement M
+held_of_spec = tie.close (tie.spec shared-slice-copy-out-n returns cast-result returns-2)

@@ -19,25 +19,25 @@ count-requires c κs = search rules
 count-requires-2 : tie.Need-count-requires-2
 count-requires-2 c κs = search rules
 
-mul-cells : tie.Need-overflow-mul-cells
+mul-cells : tie.Need-overflow_mul-cells
 mul-cells c =
-    let rows : c.before.count.result ≤ side = omega arith in
-    let columns : c.count2.result ≤ side = omega arith in
+    let rows : c.count.result ≤ side = omega arith in
+    let columns : c.count-2.result ≤ side = omega arith in
     omega (arith, mul-le-mul rows columns)
 
-bounds-after-requires : tie.Need-bounds-after-requires
+bounds-after-requires : tie.Need-bounds_after-requires
 bounds-after-requires c κs =
     let a = c.before.before in
-    let all : c.before.count.result * c.count2.result ≡ cell_count a.args.b = ap₂ ◌*◌ c.before.count.ensures c.count2.ensures in
+    let all : c.count.result * c.count-2.result ≡ cell_count a.args.b = ap₂ ◌*◌ c.count.ensures c.count-2.ensures in
     record { of_block = a.requires; of_its_cells = omega arith }
 
 returns : tie.Need-returns
 returns c =
     let n = c.before in
-    let a = n.before.before.args in
+    let a = n.args in
     let rows = rows_of_slot a.table.now a.slot in
-    bounds_so_far rows a.b c.bounds-after.ensures (ap₂ ◌*◌ n.before.count.ensures n.count2.ensures) ∙ after_all_cells rows a.b
+    bounds_so_far rows a.b c.bounds_after.ensures (ap₂ ◌*◌ n.count.ensures n.count-2.ensures) ∙ after_all_cells rows a.b
 
-pub block-bounds-spec : {M : Type 1} → statement M
-block-bounds-spec =
+pub block_bounds_spec : {M : Type 1} → statement M
+block_bounds_spec =
     tie.close (tie.spec count-requires count-requires-2 mul-cells bounds-after-requires returns)

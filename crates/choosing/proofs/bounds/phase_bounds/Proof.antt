@@ -6,11 +6,11 @@ use borrow.Author.Rules.{rules}
 use Rattle.choosing.proofs.bounds.phase_bounds.Statement.{statement}
 use Rattle.choosing.proofs.bounds.phase_bounds.Tie as tie
 
-slot-bounds-requires : tie.Need-slot-bounds-requires
+slot-bounds-requires : tie.Need-slot_bounds-requires
 slot-bounds-requires c κs = search rules
 
 returns : tie.Need-returns
-returns c = c.slot-bounds.ensures ∙ phase_bounds_are c.before.args.table.now c.before.args.slot
+returns c = c.slot_bounds.ensures ∙ phase_bounds_are c.args.table.now c.args.slot
 
-pub phase-bounds-spec : {M : Type 1} → statement M
-phase-bounds-spec = tie.close (tie.spec slot-bounds-requires returns)
+pub phase_bounds_spec : {M : Type 1} → statement M
+phase_bounds_spec = tie.close (tie.spec slot-bounds-requires returns)

@@ -8,7 +8,7 @@ use borrow.Author.Rules.{rules}
 use Rattle.choosing.proofs.bounds.row_of_cell.Statement.{statement}
 use Rattle.choosing.proofs.bounds.row_of_cell.Tie as tie
 
-number-in-requires : tie.Need-number-in-requires
+number-in-requires : tie.Need-number_in-requires
 number-in-requires c κs = search rules
 
 read-requires : tie.Need-read-requires
@@ -22,8 +22,8 @@ read-requires c κs =
 
 returns : tie.Need-returns
 returns c =
-    let a = c.before.before.args in
-    c.read.ensures ∙ ap (row_at a.table.now a.slot) c.before.number_in.ensures
+    let a = c.args in
+    c.read.ensures ∙ ap (row_at a.table.now a.slot) c.number_in.ensures
 
-pub row-of-cell-spec : {M : Type 1} → statement M
-row-of-cell-spec = tie.close (tie.spec number-in-requires read-requires returns)
+pub row_of_cell_spec : {M : Type 1} → statement M
+row_of_cell_spec = tie.close (tie.spec number-in-requires read-requires returns)

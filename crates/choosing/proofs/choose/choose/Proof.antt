@@ -8,22 +8,22 @@ use Rattle.choosing.proofs.choose.choose.Tie as tie
 clear-requires : tie.Need-clear-requires
 clear-requires c κs = search rules
 
-choose-block-requires : tie.Need-choose-block-requires
+choose-block-requires : tie.Need-choose_block-requires
 choose-block-requires c κs = search rules
 
-same_length : tie.Need-same-length
+same_length : tie.Need-shape_of-marks-then-method-lt3
 same_length c = search rules
 
-returns : tie.Need-returns
+returns : tie.Need-returns-then-method-lt3
 returns c = search rules
 
-mark-reached-requires : tie.Need-mark-reached-requires
+mark-reached-requires : tie.Need-mark_reached-requires
 mark-reached-requires c κs = search rules
 
-same-length-2 : tie.Need-same-length-2
+same-length-2 : tie.Need-shape_of-marks
 same-length-2 c = search rules
 
-returns-2 : tie.Need-returns-2
+returns-2 : tie.Need-returns
 returns-2 c = search (rules, optimal_chosen)
 
 pub choose_spec : {M : Type 1} → statement M

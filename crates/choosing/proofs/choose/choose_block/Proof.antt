@@ -8,28 +8,28 @@ use borrow.Author.Rules.{rules}
 use Rattle.choosing.proofs.choose.choose_block.Statement.{statement}
 use Rattle.choosing.proofs.choose.choose_block.Tie as tie
 
-phase-bounds-requires : tie.Need-phase-bounds-requires
+phase-bounds-requires : tie.Need-phase_bounds-requires
 phase-bounds-requires c κs = search rules
 
-expanded-block-requires : tie.Need-expanded-block-requires
+expanded-block-requires : tie.Need-expanded_block-naive-requires
 expanded-block-requires c κs =
     let on : BlockOnGrid whole_grid = omega arith in
     search (rules, call_valid)
 
-returns : tie.Need-returns
+returns : tie.Need-returns-then-naive
 returns c = search (rules, none_chosen, none_found, found_by)
 
-choose-within-requires : tie.Need-choose-within-requires
+choose-within-requires : tie.Need-choose_within-requires
 choose-within-requires c κs = search (rules, one_found, found_by)
 
-same_length : tie.Need-same-length
+same_length : tie.Need-shape_of-marks
 same_length c = search rules
 
-returns-2 : tie.Need-returns-2
+returns-2 : tie.Need-returns
 returns-2 c = search rules
 
-pub choose-block-spec : {M : Type 1} → statement M
-choose-block-spec =
+pub choose_block_spec : {M : Type 1} → statement M
+choose_block_spec =
     tie.close
     (tie.spec
     phase-bounds-requires

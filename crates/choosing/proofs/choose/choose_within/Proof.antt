@@ -6,44 +6,44 @@ use borrow.Author.Rules.{rules}
 use Rattle.choosing.proofs.choose.choose_within.Statement.{statement}
 use Rattle.choosing.proofs.choose.choose_within.Tie as tie
 
-mark-block-requires : tie.Need-mark-block-requires
+mark-block-requires : tie.Need-mark_block-requires
 mark-block-requires c κs = search (rules, no_marks-length)
 
-same_length : tie.Need-same-length
+same_length : tie.Need-shape_of-marks-then-method-eq0
 same_length c = search rules
 
-returns : tie.Need-returns
+returns : tie.Need-returns-then-method-eq0
 returns c = search (rules, naive_chosen)
 
-block-bounds-requires : tie.Need-block-bounds-requires
+block-bounds-requires : tie.Need-block_bounds-requires
 block-bounds-requires c κs = search rules
 
-expanded-block-requires : tie.Need-expanded-block-requires
+expanded-block-requires : tie.Need-expanded_block-narrowed-requires
 expanded-block-requires c κs = search (rules, call_valid)
 
-mark-found-requires : tie.Need-mark-found-requires
+mark-found-requires : tie.Need-mark_found-requires
 mark-found-requires c κs = search (rules, no_marks-length)
 
-same-length-2 : tie.Need-same-length-2
+same-length-2 : tie.Need-shape_of-marks-then-method-eq1
 same-length-2 c = search rules
 
-returns-2 : tie.Need-returns-2
+returns-2 : tie.Need-returns-then-method-eq1
 returns-2 c = search (rules, semi_naive_chosen, marked_by, found_by)
 
-search-requires : tie.Need-search-requires
+search-requires : tie.Need-search-s-requires
 search-requires c κs = search rules
 
-mark-found-requires-2 : tie.Need-mark-found-requires-2
+mark-found-requires-2 : tie.Need-mark_found-requires-2
 mark-found-requires-2 c κs = search (rules, no_marks-length)
 
-same-length-3 : tie.Need-same-length-3
+same-length-3 : tie.Need-shape_of-marks
 same-length-3 c = search rules
 
-returns-3 : tie.Need-returns-3
+returns-3 : tie.Need-returns
 returns-3 c = search (rules, iterative_chosen, marked_by)
 
-pub choose-within-spec : {M : Type 1} → statement M
-choose-within-spec =
+pub choose_within_spec : {M : Type 1} → statement M
+choose_within_spec =
     tie.close
     (tie.spec
     mark-block-requires

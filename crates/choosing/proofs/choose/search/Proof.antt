@@ -15,41 +15,41 @@ use borrow.Author.Rules.{rules}
 use Rattle.choosing.proofs.choose.search.Statement.{statement}
 use Rattle.choosing.proofs.choose.search.Tie as tie
 
-abbrev invariant-loop : tie.invariant-loop
+abbrev invariant-loop : tie.invariant-loop-rounds
 invariant-loop table slot view before₀ block₀ rounds₀ before block rounds = (rounds ≤ most_rounds) × BlockOnGrid block × Onward (rows_of_slot table slot) (aim_of view) block₀ before block rounds
 
-abbrev decreases-loop : tie.decreases-loop
+abbrev decreases-loop : tie.decreases-loop-rounds
 decreases-loop table slot view before₀ block₀ rounds₀ before block rounds = most_rounds - rounds
 
-empty-requires : tie.Need-empty-requires invariant-loop decreases-loop
+empty-requires : tie.Need-empty-before-requires invariant-loop decreases-loop
 empty-requires c κs = search rules
 
-loop-holds : tie.Need-loop-init invariant-loop decreases-loop
+loop-holds : tie.Need-loop-rounds-init invariant-loop decreases-loop
 loop-holds c =
     let a = c.before in (
       omega arith,
       a.requires.block_on,
       ap
           (λ (w : Row). iterated most_rounds (rows_of_slot a.args.table.now a.args.slot) (aim_of a.args.view) w a.args.naive 0)
-          c.empty.ensures,
+          c.empty-before.ensures,
     )
 
-block-bounds-requires : tie.Need-block-bounds-requires invariant-loop decreases-loop
+block-bounds-requires : tie.Need-block_bounds-bounds-requires invariant-loop decreases-loop
 block-bounds-requires c κs =
     let h = c.before in
     let a = h.before.before in
-    record { has_slot = a.requires.of_slot.has_slot; block_on = h.loop.invariant.1 }
+    record { has_slot = a.requires.of_slot.has_slot; block_on = h.loop-rounds.invariant.1 }
 
-is-empty-requires : tie.Need-is-empty-requires invariant-loop decreases-loop
+is-empty-requires : tie.Need-is_empty-requires invariant-loop decreases-loop
 is-empty-requires c κs = search rules
 
-add-t12 : tie.Need-overflow-add-t12 invariant-loop decreases-loop
+add-t12 : tie.Need-overflow_add-result invariant-loop decreases-loop
 add-t12 c = omega arith
 
-returns : tie.Need-returns invariant-loop decreases-loop
+returns : tie.Need-returns-then-is_empty invariant-loop decreases-loop
 returns c =
     let w = c.before in
-    let t = sym w.is_empty_lem.ensures ∙ c.if1.true in
+    let t = sym w.is_empty.ensures ∙ c.if-is_empty.true in
     search (rules, search_missing)
 
 same-requires : tie.Need-same-requires invariant-loop decreases-loop
@@ -58,35 +58,35 @@ same-requires c κs = search rules
 expanded-requires : tie.Need-expanded-requires invariant-loop decreases-loop
 expanded-requires c κs = search (rules, call_valid)
 
-block-of-requires : tie.Need-block-of-requires invariant-loop decreases-loop
+block-of-requires : tie.Need-block_of-block-requires invariant-loop decreases-loop
 block-of-requires c κs = search rules
 
-add_rounds : tie.Need-overflow-add-rounds invariant-loop decreases-loop
+add_rounds : tie.Need-overflow_add-rounds invariant-loop decreases-loop
 add_rounds c = omega arith
 
-loop-less : tie.Need-loop-smaller invariant-loop decreases-loop
+loop-less : tie.Need-loop-rounds-smaller invariant-loop decreases-loop
 loop-less c = omega arith
 
-loop-again : tie.Need-loop-preserved invariant-loop decreases-loop
+loop-again : tie.Need-loop-rounds-preserved invariant-loop decreases-loop
 loop-again c =
     let e = c.before.before.before.before in
-    let t = sym e.before.is_empty_lem.ensures ∙ e.if1.false in
-    let u = sym c.before.before.before.same.ensures ∙ c.before.before.if2.false in
-    let p = c.Block-of.ensures ∙ ap block_of c.before.expanded.ensures in
-    (omega arith, subst BlockOnGrid (sym c.Block-of.ensures) (block_on_grid c.before.expanded.result), rw p (search (rules, search_onward)))
+    let t = sym e.is_empty.ensures ∙ e.if-is_empty.false in
+    let u = sym c.same.ensures ∙ c.if-same.false in
+    let p = c.block_of-block.ensures ∙ ap block_of c.expanded.ensures in
+    (omega arith, subst BlockOnGrid (sym c.block_of-block.ensures) (block_on_grid c.expanded.result), rw p (search (rules, search_onward)))
 
-returns-2 : tie.Need-returns-2 invariant-loop decreases-loop
+returns-2 : tie.Need-returns-after-loop-rounds invariant-loop decreases-loop
 returns-2 c = search (rules, search_out_of_rounds)
 
-returns-3 : tie.Need-returns-3 invariant-loop decreases-loop
+returns-3 : tie.Need-returns-then-same invariant-loop decreases-loop
 returns-3 c =
     let e = c.before.before in
-    let t = sym e.before.is_empty_lem.ensures ∙ e.if1.false in
-    let u = sym c.before.same.ensures ∙ c.if2.true in
+    let t = sym e.is_empty.ensures ∙ e.if-is_empty.false in
+    let u = sym c.same.ensures ∙ c.if-same.true in
     search (rules, search_same)
 
-pub search-spec : {M : Type 1} → statement M
-search-spec =
+pub search_spec : {M : Type 1} → statement M
+search_spec =
     tie.close
     (tie.spec
     invariant-loop

@@ -13,54 +13,54 @@ use borrow.Author.Rules.{rules}
 use Rattle.choosing.proofs.mark.mark_block.Statement.{statement}
 use Rattle.choosing.proofs.mark.mark_block.Tie as tie
 
-abbrev invariant-loop : tie.invariant-loop
+abbrev invariant-loop : tie.invariant-loop-row
 invariant-loop b marks₀ numbers row₀ marks row = (length marks ≡ cells) × Left marks₀ (cells_of b) marks (rows_from b row)
 
-abbrev decreases-loop : tie.decreases-loop
+abbrev decreases-loop : tie.decreases-loop-row
 decreases-loop b marks₀ numbers row₀ marks row = b.last_row + 1 - row
 
-curve-numbers-requires : tie.Need-curve-numbers-requires invariant-loop decreases-loop
+curve-numbers-requires : tie.Need-curve_numbers-numbers-requires invariant-loop decreases-loop
 curve-numbers-requires c κs = search rules
 
-loop-holds : tie.Need-loop-init invariant-loop decreases-loop
+loop-holds : tie.Need-loop-row-init invariant-loop decreases-loop
 unfolding cells_of
 loop-holds c =
     let a = c.before.before in
     (a.requires.one_each, left_all a.args.marks.now (cells_of a.args.b))
 
-mark-row-requires : tie.Need-mark-row-requires invariant-loop decreases-loop
+mark-row-requires : tie.Need-mark_row-requires invariant-loop decreases-loop
 mark-row-requires c κs =
     let h = c.before.before.before.before in
     let n = h.before in
     let a = n.before.before in
-    record { curve = n.curve-numbers.ensures; of_block = record { block_on = a.requires.block_on; one_each = h.loop.invariant.0 }; row_on = omega arith }
+    record { curve = n.curve_numbers-numbers.ensures; of_block = record { block_on = a.requires.block_on; one_each = h.loop-row.invariant.0 }; row_on = omega arith }
 
-add_row : tie.Need-overflow-add-row invariant-loop decreases-loop
+add_row : tie.Need-overflow_add-row invariant-loop decreases-loop
 add_row c = omega arith
 
-loop-less : tie.Need-loop-smaller invariant-loop decreases-loop
+loop-less : tie.Need-loop-row-smaller invariant-loop decreases-loop
 loop-less c = omega arith
 
-loop-again : tie.Need-loop-preserved invariant-loop decreases-loop
+loop-again : tie.Need-loop-row-preserved invariant-loop decreases-loop
 loop-again c =
     let m = c.before.before.before in
     let h = m.before.before.before.before in
-    let b = h.before.before.before.args.b in
-    let row = h.loop.row in (
+    let b = h.args.b in
+    let row = h.loop-row.row in (
       search rules,
-      left_next h.loop.invariant.1 (row_from b row b.first_column) (rows_from b (row + 1)) (rows_before b row (omega arith)) c.before.before.mark-row.ensures,
+      left_next h.loop-row.invariant.1 (row_from b row b.first_column) (rows_from b (row + 1)) (rows_before b row (omega arith)) c.mark_row.ensures,
     )
 
-same_length : tie.Need-same-length invariant-loop decreases-loop
+same_length : tie.Need-shape_of-marks invariant-loop decreases-loop
 same_length c = search rules
 
 returns : tie.Need-returns invariant-loop decreases-loop
 returns c =
     let h = c.before.before in
-    left_none h.loop.invariant.1 (rows_none h.before.before.before.args.b h.loop.row (omega arith))
+    left_none h.loop-row.invariant.1 (rows_none h.args.b h.loop-row.row (omega arith))
 
-pub mark-block-spec : {M : Type 1} → statement M
-mark-block-spec =
+pub mark_block_spec : {M : Type 1} → statement M
+mark_block_spec =
     tie.close
     (tie.spec
     invariant-loop

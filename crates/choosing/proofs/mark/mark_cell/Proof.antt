@@ -10,20 +10,20 @@ use borrow.Author.Rules.{rules}
 use Rattle.choosing.proofs.mark.mark_cell.Statement.{statement}
 use Rattle.choosing.proofs.mark.mark_cell.Tie as tie
 
-number-in-requires : tie.Need-number-in-requires
+number-in-requires : tie.Need-number_in-n-requires
 number-in-requires c κs = search rules
 
-slice-write-marks : tie.Need-slice-write-marks
+slice-write-marks : tie.Need-bounds-marks-n
 slice-write-marks c =
     let a = c.before.before in
-    omega (arith, c.number_in.ensures, number_below a.args.c a.requires.on_grid)
+    omega (arith, c.number_in-n.ensures, number_below a.args.c a.requires.on_grid)
 
-same_length : tie.Need-same-length
+same_length : tie.Need-shape_of-marks
 same_length c = search rules
 
 returns : tie.Need-returns
 unfolding with_cells
-returns c = ap (λ (n : ℕ). set c.before.before.args.marks.now n 1) c.number_in.ensures
+returns c = ap (λ (n : ℕ). set c.args.marks.now n 1) c.number_in-n.ensures
 
-pub mark-cell-spec : {M : Type 1} → statement M
-mark-cell-spec = tie.close (tie.spec number-in-requires slice-write-marks same_length returns)
+pub mark_cell_spec : {M : Type 1} → statement M
+mark_cell_spec = tie.close (tie.spec number-in-requires slice-write-marks same_length returns)

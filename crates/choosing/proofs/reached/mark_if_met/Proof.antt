@@ -22,57 +22,57 @@ use Rattle.choosing.proofs.reached.mark_if_met.Statement.{statement}
 use Rattle.choosing.proofs.reached.mark_if_met.Tie as tie
 
 -- the cell of the place is on the grid, and its number is one of the marks'
-on : (c : tie.After-cell-at) → OnGrid c.Cell-at.result
-on c = let a = c.before.before in subst OnGrid (sym c.Cell-at.ensures) (place_on a.args.place a.requires.is_place.within)
+on : (c : tie.After-cell_at-c) → OnGrid c.cell_at-c.result
+on c = let a = c.before.before in subst OnGrid (sym c.cell_at-c.ensures) (place_on a.args.place a.requires.is_place.within)
 
-below : (c : tie.After-number-at) → c.number_at.result < cells
+below : (c : tie.After-number_at-n) → c.number_at-n.result < cells
 below c =
     let a = c.before.before.before in
-    omega (arith, c.number_at.ensures, number_below (cell_at a.args.place) (place_on a.args.place a.requires.is_place.within))
+    omega (arith, c.number_at-n.ensures, number_below (cell_at a.args.place) (place_on a.args.place a.requires.is_place.within))
 
 -- the row of the cell, as it was read
-row_is : (c : tie.After-read) → let a = c.before.before.before.before.args in c.read.result ≡ rows_of_slot a.table.now a.slot c.before.before.Cell-at.result
+row_is : (c : tie.After-read) → let a = c.args in c.read.result ≡ rows_of_slot a.table.now a.slot c.before.before.cell_at-c.result
 row_is c =
     let n = c.before in
-    let a = n.before.before.before.args in
+    let a = n.args in
     c.read.ensures
-    ∙ ap (row_at a.table.now a.slot) n.number_at.ensures
-    ∙ ap (rows_of_slot a.table.now a.slot) (sym n.before.Cell-at.ensures)
+    ∙ ap (row_at a.table.now a.slot) n.number_at-n.ensures
+    ∙ ap (rows_of_slot a.table.now a.slot) (sym n.before.cell_at-c.ensures)
 
-cell-at-requires : tie.Need-cell-at-requires
+cell-at-requires : tie.Need-cell_at-c-requires
 cell-at-requires c κs = search rules
 
-number-at-requires : tie.Need-number-at-requires
+number-at-requires : tie.Need-number_at-n-requires
 number-at-requires c κs = search rules
 
 read-requires : tie.Need-read-requires
 read-requires c κs =
-    let h = c.before.before.before.requires.of_slot.has_slot in
+    let h = c.requires.of_slot.has_slot in
     record { whole_table = h.whole_table; one_of_three = h.one_of_three; number_on = below c }
 
-cell-meets-requires : tie.Need-cell-meets-requires
+cell-meets-requires : tie.Need-cell_meets-met-requires
 cell-meets-requires c κs =
     let k = c.before.before in
     let a = k.before.before in
-    record { ask = a.requires.ask; on_grid = on k; valid = ap valid_row (row_is c) ∙ slot_valid a.requires.of_slot k.Cell-at.result (on k) }
+    record { ask = a.requires.ask; on_grid = on k; valid = ap valid_row (row_is c) ∙ slot_valid a.requires.of_slot k.cell_at-c.result (on k) }
 
-slice-read-mark-after : tie.Need-slice-read-mark-after
+slice-read-mark-after : tie.Need-bounds-marks-n
 slice-read-mark-after c =
     let n = c.before.before.before in
-    omega (arith, below n, n.before.before.before.requires.one_each)
+    omega (arith, below n, n.requires.one_each)
 
-mark-after-requires : tie.Need-mark-after-requires
+mark-after-requires : tie.Need-mark_after-mark-requires
 mark-after-requires c κs =
     let n = c.before.before.before in
     let a = n.before.before.before in
-    a.requires.bits n.number_at.result (omega (arith, below n, a.requires.one_each))
+    a.requires.bits n.number_at-n.result (omega (arith, below n, a.requires.one_each))
 
-slice-write-marks : tie.Need-slice-write-marks
+slice-write-marks : tie.Need-bounds-marks-n-2
 slice-write-marks c =
     let n = c.before.before.before.before in
-    omega (arith, below n, n.before.before.before.requires.one_each)
+    omega (arith, below n, n.requires.one_each)
 
-same_length : tie.Need-same-length
+same_length : tie.Need-shape_of-marks
 same_length c = search rules
 
 returns : tie.Need-returns
@@ -81,15 +81,15 @@ returns c =
     let r = m.before in
     let n = r.before in
     let k = n.before in
-    let a = k.before.before.args in
+    let a = k.args in
     let rows = rows_of_slot a.table.now a.slot in
     let aim = aim_of a.view in
-    let met = m.cell-meets.ensures ∙ ap (aim.meets k.Cell-at.result) (row_is r) ∙ ap (λ (x : Cell). aim.meets x (rows x)) k.Cell-at.ensures in
-    subst (λ (v : ℕ). Marked a.marks.now (meeting rows aim (a.place ∷ [])) (set a.marks.now n.number_at.result v)) (sym c.mark-after.ensures)
-    (met_one rows aim a.marks.now a.place n.number_at.result m.cell-meets.result n.number_at.ensures met)
+    let met = m.cell_meets-met.ensures ∙ ap (aim.meets k.cell_at-c.result) (row_is r) ∙ ap (λ (x : Cell). aim.meets x (rows x)) k.cell_at-c.ensures in
+    subst (λ (v : ℕ). Marked a.marks.now (meeting rows aim (a.place ∷ [])) (set a.marks.now n.number_at-n.result v)) (sym c.mark_after-mark.ensures)
+    (met_one rows aim a.marks.now a.place n.number_at-n.result m.cell_meets-met.result n.number_at-n.ensures met)
 
-pub mark-if-met-spec : {M : Type 1} → statement M
-mark-if-met-spec =
+pub mark_if_met_spec : {M : Type 1} → statement M
+mark_if_met_spec =
     tie.close
     (tie.spec
     cell-at-requires

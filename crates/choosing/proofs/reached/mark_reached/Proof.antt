@@ -6,38 +6,38 @@ use Rattle.choosing.proofs.ReachedLaws.{bits_none, listed_places, kept_places, k
 use Rattle.choosing.proofs.reached.mark_reached.Statement.{statement}
 use Rattle.choosing.proofs.reached.mark_reached.Tie as tie
 
-curve-numbers-requires : tie.Need-curve-numbers-requires
+curve-numbers-requires : tie.Need-curve_numbers-numbers-requires
 curve-numbers-requires c κs = search rules
 
-slice-aggregate-list-nonempty : tie.Need-slice-aggregate-list-nonempty
+slice-aggregate-list-nonempty : tie.Need-slice_bounds-list_nonempty-end
 slice-aggregate-list-nonempty c = search rules
 
-list-nonempty-requires : tie.Need-list-nonempty-requires
+list-nonempty-requires : tie.Need-list_nonempty-k-requires
 list-nonempty-requires c κs = search rules
 
-slice-aggregate-keep-columns : tie.Need-slice-aggregate-keep-columns
+slice-aggregate-keep-columns : tie.Need-slice_bounds-keep_columns-end
 slice-aggregate-keep-columns c = search rules
 
-slice-aggregate-keep-columns-2 : tie.Need-slice-aggregate-keep-columns-2
+slice-aggregate-keep-columns-2 : tie.Need-slice_bounds-keep_columns-end-2
 slice-aggregate-keep-columns-2 c = search rules
 
-keep-columns-requires : tie.Need-keep-columns-requires
+keep-columns-requires : tie.Need-keep_columns-m-requires
 keep-columns-requires c κs = search (rules, listed_places)
 
-slice-aggregate-mark-listed : tie.Need-slice-aggregate-mark-listed
+slice-aggregate-mark-listed : tie.Need-slice_bounds-mark_listed-end
 slice-aggregate-mark-listed c = search rules
 
-mark-listed-requires : tie.Need-mark-listed-requires
+mark-listed-requires : tie.Need-mark_listed-requires
 mark-listed-requires c κs = search (rules, no_marks-length, bits_none, listed_places, kept_places)
 
-same_length : tie.Need-same-length
+same_length : tie.Need-shape_of-marks
 same_length c = search rules
 
 returns : tie.Need-returns
 returns c = search (rules, kept_marked)
 
-pub mark-reached-spec : {M : Type 1} → statement M
-mark-reached-spec =
+pub mark_reached_spec : {M : Type 1} → statement M
+mark_reached_spec =
     tie.close
     (tie.spec
     curve-numbers-requires

@@ -8,13 +8,13 @@ use Rattle.choosing.proofs.ReachedLaws.{place_on, place_numbered}
 use Rattle.choosing.proofs.reached.number_at.Statement.{statement}
 use Rattle.choosing.proofs.reached.number_at.Tie as tie
 
-mul-result : tie.Need-overflow-mul-result
+mul-result : tie.Need-offset_bounds-numbers-place
 mul-result c = search rules
 
-element-copy-out-result : tie.Need-element-copy-out-result
+element-copy-out-result : tie.Need-bounds-numbers-place
 element-copy-out-result c = search rules
 
-cast-result : tie.Need-overflow-cast-result
+cast-result : tie.Need-overflow_cast-result
 cast-result c =
     let a = c.before in
     let within = a.requires.is_place.within in
@@ -23,5 +23,5 @@ cast-result c =
 returns : tie.Need-returns
 returns c = let a = c.before in place_numbered _ _ a.requires.curve a.requires.is_place.within
 
-pub number-at-spec : {M : Type 1} → statement M
-number-at-spec = tie.close (tie.spec mul-result element-copy-out-result cast-result returns)
+pub number_at_spec : {M : Type 1} → statement M
+number_at_spec = tie.close (tie.spec mul-result element-copy-out-result cast-result returns)

@@ -17,10 +17,10 @@ use Rattle.lanes.proofs.bounds.join_lanes.Tie as tie
 abbrev left : List ℤ → List ℤ → ℕ → Row
 left least greatest j = bounds_of (lane_rows least greatest j (lane_row_count - j))
 
-abbrev invariant-loop : tie.invariant-loop
+abbrev invariant-loop : tie.invariant-loop-j
 invariant-loop least greatest bounds₀ j₀ bounds j = (j ≤ lane_row_count) × (bounds ≡ left least greatest j)
 
-abbrev decreases-loop : tie.decreases-loop
+abbrev decreases-loop : tie.decreases-loop-j
 decreases-loop least greatest bounds₀ j₀ bounds j = j
 
 more : (least greatest : List ℤ) (j : ℕ) → 0 < j → j ≤ lane_row_count → joined (lane_row least greatest (j - 1)) (left least greatest j) ≡ left least greatest (j - 1)
@@ -30,39 +30,39 @@ more least greatest j h k =
     let n : suc (j - 1) ≡ j = omega arith in
     rw (e, n)
 
-empty-requires : tie.Need-empty-requires invariant-loop decreases-loop
+empty-requires : tie.Need-empty-bounds-requires invariant-loop decreases-loop
 empty-requires c κs = search rules
 
-loop-holds : tie.Need-loop-init invariant-loop decreases-loop
+loop-holds : tie.Need-loop-j-init invariant-loop decreases-loop
 unfolding lane_rows bounds_of
-loop-holds c = (omega arith, c.empty.ensures)
+loop-holds c = (omega arith, c.empty-bounds.ensures)
 
-sub-j : tie.Need-overflow-sub-j invariant-loop decreases-loop
+sub-j : tie.Need-overflow_sub-j invariant-loop decreases-loop
 sub-j c = omega arith
 
-lane-row-requires : tie.Need-lane-row-requires invariant-loop decreases-loop
+lane-row-requires : tie.Need-lane_row-requires invariant-loop decreases-loop
 lane-row-requires c κs = omega arith
 
-join-requires : tie.Need-join-requires invariant-loop decreases-loop
+join-requires : tie.Need-join-bounds-requires invariant-loop decreases-loop
 join-requires c κs = search rules
 
-loop-less : tie.Need-loop-smaller invariant-loop decreases-loop
+loop-less : tie.Need-loop-j-smaller invariant-loop decreases-loop
 loop-less c = omega arith
 
-loop-again : tie.Need-loop-preserved invariant-loop decreases-loop
+loop-again : tie.Need-loop-j-preserved invariant-loop decreases-loop
 loop-again c =
     let h = c.before.before.before in
     let a = h.before.before in
-    (omega arith, c.join.ensures ∙ ap₂ joined c.before.lane_row.ensures h.loop.invariant.1 ∙ more a.args.least.now a.args.greatest.now h.loop.j (omega arith) (omega arith))
+    (omega arith, c.join-bounds.ensures ∙ ap₂ joined c.lane_row.ensures h.loop-j.invariant.1 ∙ more a.args.least.now a.args.greatest.now h.loop-j.j (omega arith) (omega arith))
 
 returns : tie.Need-returns invariant-loop decreases-loop
 returns c =
     let a = c.before.before.before in
-    let e : c.before.loop.j ≡ 0 = omega arith in
-    c.before.loop.invariant.1 ∙ ap (left a.args.least.now a.args.greatest.now) e
+    let e : c.loop-j.j ≡ 0 = omega arith in
+    c.loop-j.invariant.1 ∙ ap (left a.args.least.now a.args.greatest.now) e
 
-pub join-lanes-spec : {M : Type 1} → statement M
-join-lanes-spec =
+pub join_lanes_spec : {M : Type 1} → statement M
+join_lanes_spec =
     tie.close
     (tie.spec
     invariant-loop

@@ -10,41 +10,41 @@ use Rattle.lanes.proofs.ValidityLaws.{JudgedTo, judged_more}
 use Rattle.lanes.proofs.validity.judged_places.Statement.{statement}
 use Rattle.lanes.proofs.validity.judged_places.Tie as tie
 
-abbrev invariant-loop : tie.invariant-loop
+abbrev invariant-loop : tie.invariant-loop-j
 invariant-loop words valid₀ j₀ valid j = (j ≤ places) × JudgedTo words valid j
 
-abbrev decreases-loop : tie.decreases-loop
+abbrev decreases-loop : tie.decreases-loop-j
 decreases-loop words valid₀ j₀ valid j = places - j
 
-loop-holds : tie.Need-loop-init invariant-loop decreases-loop
+loop-holds : tie.Need-loop-j-init invariant-loop decreases-loop
 loop-holds c = (omega arith, record { long = refl; done = λ i h. absurd (omega arith) })
 
-read-from-requires : tie.Need-read-from-requires invariant-loop decreases-loop
+read-from-requires : tie.Need-read_from-requires invariant-loop decreases-loop
 read-from-requires c κs = omega arith
 
-is-valid-requires : tie.Need-is-valid-requires invariant-loop decreases-loop
+is-valid-requires : tie.Need-is_valid-requires invariant-loop decreases-loop
 is-valid-requires c κs = search rules
 
-array-write-valid : tie.Need-array-write-valid invariant-loop decreases-loop
+array-write-valid : tie.Need-bounds-valid-j invariant-loop decreases-loop
 array-write-valid c = omega arith
 
-add-j : tie.Need-overflow-add-j invariant-loop decreases-loop
+add-j : tie.Need-overflow_add-j invariant-loop decreases-loop
 add-j c = omega arith
 
-loop-less : tie.Need-loop-smaller invariant-loop decreases-loop
+loop-less : tie.Need-loop-j-smaller invariant-loop decreases-loop
 loop-less c = omega arith
 
-loop-again : tie.Need-loop-preserved invariant-loop decreases-loop
+loop-again : tie.Need-loop-j-preserved invariant-loop decreases-loop
 loop-again c =
     let h = c.before.before.before in
-    let here = c.is-valid.ensures ∙ ap valid_row c.before.read-from.ensures in
-    (omega arith, judged_more h.before.args.words.now h.loop.valid h.loop.j c.is-valid.result (omega arith) h.loop.invariant.1 here)
+    let here = c.is_valid.ensures ∙ ap valid_row c.read_from.ensures in
+    (omega arith, judged_more h.args.words.now h.loop-j.valid h.loop-j.j c.is_valid.result (omega arith) h.loop-j.invariant.1 here)
 
 returns : tie.Need-returns invariant-loop decreases-loop
-returns c = record { each = λ j h. c.before.loop.invariant.1.done j (omega arith) }
+returns c = record { each = λ j h. c.loop-j.invariant.1.done j (omega arith) }
 
-pub judged-places-spec : {M : Type 1} → statement M
-judged-places-spec =
+pub judged_places_spec : {M : Type 1} → statement M
+judged_places_spec =
     tie.close
     (tie.spec
     invariant-loop

@@ -11,42 +11,42 @@ use Rattle.lanes.proofs.ValidityLaws.{lane_more}
 use Rattle.lanes.proofs.validity.row_lanes_valid.Statement.{statement}
 use Rattle.lanes.proofs.validity.row_lanes_valid.Tie as tie
 
-abbrev invariant-loop : tie.invariant-loop
+abbrev invariant-loop : tie.invariant-loop-j
 invariant-loop valid all₀ j₀ all j = (j ≤ block_rows) × (all ≡ row_lanes_from (block_rows - j) j valid)
 
-abbrev decreases-loop : tie.decreases-loop
+abbrev decreases-loop : tie.decreases-loop-j
 decreases-loop valid all₀ j₀ all j = j
 
-loop-holds : tie.Need-loop-init invariant-loop decreases-loop
+loop-holds : tie.Need-loop-j-init invariant-loop decreases-loop
 unfolding row_lanes_from
 loop-holds c = (omega arith, refl)
 
-sub-j : tie.Need-overflow-sub-j invariant-loop decreases-loop
+sub-j : tie.Need-overflow_sub-j invariant-loop decreases-loop
 sub-j c = omega arith
 
-mul-all : tie.Need-overflow-mul-all invariant-loop decreases-loop
+mul-all : tie.Need-overflow_mul-all invariant-loop decreases-loop
 mul-all c = omega arith
 
-element-copy-out-all : tie.Need-element-copy-out-all invariant-loop decreases-loop
+element-copy-out-all : tie.Need-bounds-valid-j invariant-loop decreases-loop
 element-copy-out-all c = omega arith
 
-loop-less : tie.Need-loop-smaller invariant-loop decreases-loop
+loop-less : tie.Need-loop-j-smaller invariant-loop decreases-loop
 loop-less c = omega arith
 
-loop-again : tie.Need-loop-preserved invariant-loop decreases-loop
+loop-again : tie.Need-loop-j-preserved invariant-loop decreases-loop
 loop-again c =
     let h = c.before.before in
-    let valid = h.before.args.valid.now in
-    (omega arith, ap (λ (b : Bool). get_or valid (4 * (h.loop.j - 1)) false && b) h.loop.invariant.1 ∙ lane_more valid h.loop.j (omega arith) (omega arith))
+    let valid = h.args.valid.now in
+    (omega arith, ap (λ (b : Bool). get_or valid (4 * (h.loop-j.j - 1)) false && b) h.loop-j.invariant.1 ∙ lane_more valid h.loop-j.j (omega arith) (omega arith))
 
 returns : tie.Need-returns invariant-loop decreases-loop
 returns c =
-    let valid = c.before.before.args.valid.now in
-    let e : c.before.loop.j ≡ 0 = omega arith in
-    c.before.loop.invariant.1 ∙ ap (λ (j : ℕ). row_lanes_from (block_rows - j) j valid) e
+    let valid = c.args.valid.now in
+    let e : c.loop-j.j ≡ 0 = omega arith in
+    c.loop-j.invariant.1 ∙ ap (λ (j : ℕ). row_lanes_from (block_rows - j) j valid) e
 
-pub row-lanes-valid-spec : {M : Type 1} → statement M
-row-lanes-valid-spec =
+pub row_lanes_valid_spec : {M : Type 1} → statement M
+row_lanes_valid_spec =
     tie.close
     (tie.spec
     invariant-loop

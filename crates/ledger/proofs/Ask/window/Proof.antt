@@ -10,5 +10,5 @@ of-requires c κs = search rules
 returns : tie.Need-returns
 returns c = rw c.of.ensures (search rules)
 
-pub window-spec : {M : Type 1} → statement M
-window-spec = tie.close (tie.spec of-requires returns)
+pub window_spec : {M : Type 1} → statement M
+window_spec = tie.close (tie.spec of-requires returns)

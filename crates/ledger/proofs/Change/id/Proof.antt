@@ -8,23 +8,23 @@ use Rattle.ledger.specs.Refusals.{id_of}
 use Rattle.ledger.proofs.Change.id.Statement.{statement}
 use Rattle.ledger.proofs.Change.id.Tie as tie
 
-enum-known-self : tie.Need-enum-known-self
+enum-known-self : tie.Need-enum_known-self
 enum-known-self c = search rules
 
-enum-known-self-2 : tie.Need-enum-known-self-2
+enum-known-self-2 : tie.Need-enum_known-self-in-Report-1
 enum-known-self-2 c = search rules
 
-enum-known-self-3 : tie.Need-enum-known-self-3
+enum-known-self-3 : tie.Need-enum_known-self-in-Drop-1
 enum-known-self-3 c = search rules
 
-returns : tie.Need-returns
-returns c = let k = c.before.before.self in held w32 k.given.0.0.id (search rules) ∙ sym (ap id_of k.given.1)
+returns : tie.Need-returns-in-Add
+returns c = held w32 c.in-Add.r.id (search rules) ∙ sym (ap id_of c.in-Add.is)
 
-returns-2 : tie.Need-returns-2
-returns-2 c = let k = c.before.before.self2 in held w32 k.given.0.0.id (search rules) ∙ sym (ap id_of k.given.1)
+returns-2 : tie.Need-returns-in-Report
+returns-2 c = held w32 c.in-Report.r.id (search rules) ∙ sym (ap id_of c.in-Report.is)
 
-returns-3 : tie.Need-returns-3
-returns-3 c = let k = c.before.self3 in held w32 k.given.0.0 (search rules) ∙ sym (ap id_of k.given.1)
+returns-3 : tie.Need-returns-in-Drop
+returns-3 c = held w32 c.in-Drop.id (search rules) ∙ sym (ap id_of c.in-Drop.is)
 
 pub id_spec : {M : Type 1} → statement M
 id_spec = tie.close (tie.spec enum-known-self enum-known-self-2 enum-known-self-3 returns returns-2 returns-3)

@@ -17,5 +17,5 @@ greater-requires c κs = search rules
 returns : tie.Need-returns
 returns c = same_range (search (called₂ w64 min_z)) (search (called₂ w64 max_z))
 
-pub around-ranges-spec : {M : Type 1} → statement M
-around-ranges-spec = tie.close (tie.spec lesser-requires greater-requires returns)
+pub around_ranges_spec : {M : Type 1} → statement M
+around_ranges_spec = tie.close (tie.spec lesser-requires greater-requires returns)

@@ -5,13 +5,13 @@ use Rattle.ints.specs.Whole.{eq_z}
 use Rattle.records.proofs.order.is_same.Statement.{statement}
 use Rattle.records.proofs.order.is_same.Tie as tie
 
-returns : tie.Need-returns
+returns : tie.Need-returns-then-a-b
 unfolding eq_z
 returns c = search reads
 
-returns-2 : tie.Need-returns-2
+returns-2 : tie.Need-returns-else-a-b
 unfolding eq_z
 returns-2 c = search reads
 
-pub is-same-spec : {M : Type 1} → statement M
-is-same-spec = tie.close (tie.spec returns returns-2)
+pub is_same_spec : {M : Type 1} → statement M
+is_same_spec = tie.close (tie.spec returns returns-2)

@@ -12,64 +12,64 @@ use Rattle.records.proofs.RecordsTurnLaws.{left, left-at_first, in_order-so_far,
 use Rattle.records.proofs.order.is_sorted.Statement.{statement}
 use Rattle.records.proofs.order.is_sorted.Tie as tie
 
-abbrev invariant-loop : tie.invariant-loop
+abbrev invariant-loop : tie.invariant-loop-i
 invariant-loop words n sorted₀ i₀ sorted i = (1 ≤ i) × (is_sorted (read_records n words) ≡ sorted && is_sorted (left n (i - 1) words))
 
-abbrev decreases-loop : tie.decreases-loop
+abbrev decreases-loop : tie.decreases-loop-i
 decreases-loop words n sorted₀ i₀ sorted i = n - i
 
-loop-holds : tie.Need-loop-init invariant-loop decreases-loop
+loop-holds : tie.Need-loop-i-init invariant-loop decreases-loop
 loop-holds c = (omega arith, ap is_sorted (left-at_first c.args.n c.args.words.now))
 
-sub-read-from : tie.Need-overflow-sub-read-from invariant-loop decreases-loop
+sub-read-from : tie.Need-overflow_sub-i invariant-loop decreases-loop
 sub-read-from c = search rules
 
-mul-read-from : tie.Need-overflow-mul-read-from invariant-loop decreases-loop
+mul-read-from : tie.Need-overflow_mul-i invariant-loop decreases-loop
 mul-read-from c = search rules
 
-read-from-requires : tie.Need-read-from-requires invariant-loop decreases-loop
+read-from-requires : tie.Need-read_from-a-requires invariant-loop decreases-loop
 read-from-requires c κs = search rules
 
-mul-read-from-2 : tie.Need-overflow-mul-read-from-2 invariant-loop decreases-loop
+mul-read-from-2 : tie.Need-overflow_mul-i-in-loop-i invariant-loop decreases-loop
 mul-read-from-2 c = search rules
 
-read-from-requires-2 : tie.Need-read-from-requires-2 invariant-loop decreases-loop
+read-from-requires-2 : tie.Need-read_from-b-requires invariant-loop decreases-loop
 read-from-requires-2 c κs = search rules
 
-precedes-requires : tie.Need-precedes-requires invariant-loop decreases-loop
+precedes-requires : tie.Need-precedes-sorted-requires invariant-loop decreases-loop
 precedes-requires c κs = search rules
 
 -- the loop, as seen from a test
-abbrev looping : tie.After-precedes invariant-loop decreases-loop → tie.At-loop invariant-loop decreases-loop
+abbrev looping : tie.After-precedes-sorted invariant-loop decreases-loop → tie.At-loop-i invariant-loop decreases-loop
 looping c = c.before.before.before.before
 
 -- the test of the record at i and the one before it
 test :
-    (c : tie.After-precedes invariant-loop decreases-loop)
-    → c.precedes.result
-    ≡ precedes (record_from (looping c).before.args.words.now (record_words * ((looping c).loop.i - 1))) (record_from (looping c).before.args.words.now (record_words * (looping c).loop.i))
-test c = c.precedes.ensures ∙ ap₂ precedes c.before.before.read-from.ensures c.before.read-from2.ensures
+    (c : tie.After-precedes-sorted invariant-loop decreases-loop)
+    → c.precedes-sorted.result
+    ≡ precedes (record_from (looping c).args.words.now (record_words * ((looping c).loop-i.i - 1))) (record_from (looping c).args.words.now (record_words * (looping c).loop-i.i))
+test c = c.precedes-sorted.ensures ∙ ap₂ precedes c.read_from-a.ensures c.read_from-b.ensures
 
-add-i : tie.Need-overflow-add-i invariant-loop decreases-loop
+add-i : tie.Need-overflow_add-i invariant-loop decreases-loop
 add-i c = search rules
 
-loop-less : tie.Need-loop-smaller invariant-loop decreases-loop
+loop-less : tie.Need-loop-i-smaller invariant-loop decreases-loop
 loop-less c = search rules
 
-loop-again : tie.Need-loop-preserved invariant-loop decreases-loop
+loop-again : tie.Need-loop-i-preserved invariant-loop decreases-loop
 loop-again c =
     let at = looping c in
-    let further = in_order-so_far at.before.args.n at.loop.i at.before.args.words.now at.loop.sorted at.loop.inv.0 at.loop.inv.1 (omega arith) in
+    let further = in_order-so_far at.args.n at.loop-i.i at.args.words.now at.loop-i.sorted at.loop-i.invariant.0 at.loop-i.invariant.1 (omega arith) in
     (omega arith, rw (test c) further)
 
 returns : tie.Need-returns invariant-loop decreases-loop
 returns c =
     let at = c.before in
-    let a = at.before.args in
-    in_order_to_the_end a.n at.loop.i a.words.now at.loop.sorted at.loop.invariant.0 at.loop.invariant.1 (omega arith)
+    let a = at.args in
+    in_order_to_the_end a.n at.loop-i.i a.words.now at.loop-i.sorted at.loop-i.invariant.0 at.loop-i.invariant.1 (omega arith)
 
-pub is-sorted-spec : {M : Type 1} → statement M
-is-sorted-spec =
+pub is_sorted_spec : {M : Type 1} → statement M
+is_sorted_spec =
     tie.close
     (tie.spec
     invariant-loop

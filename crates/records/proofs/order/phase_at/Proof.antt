@@ -8,14 +8,14 @@ use borrow.Author.Rules.{rules}
 use Rattle.records.proofs.order.phase_at.Statement.{statement}
 use Rattle.records.proofs.order.phase_at.Tie as tie
 
-cast-phase-of : tie.Need-overflow-cast-phase-of
+cast-phase-of : tie.Need-overflow_cast-t
 cast-phase-of c = wide_fits w32 w64 tt c.args.t (search rules)
 
-phase-of-requires : tie.Need-phase-of-requires
+phase-of-requires : tie.Need-phase_of-requires
 phase-of-requires c κs = search rules
 
 returns : tie.Need-returns
-returns c = c.phase-of.ensures ∙ ap phase_of (wide_back w32 w64 tt c.before.args.t (search rules))
+returns c = c.phase_of.ensures ∙ ap phase_of (wide_back w32 w64 tt c.args.t (search rules))
 
-pub phase-at-spec : {M : Type 1} → statement M
-phase-at-spec = tie.close (tie.spec cast-phase-of phase-of-requires returns)
+pub phase_at_spec : {M : Type 1} → statement M
+phase_at_spec = tie.close (tie.spec cast-phase-of phase-of-requires returns)

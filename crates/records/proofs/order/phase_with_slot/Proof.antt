@@ -7,20 +7,20 @@ use borrow.Author.Rules.{rules}
 use Rattle.records.proofs.order.phase_with_slot.Statement.{statement}
 use Rattle.records.proofs.order.phase_with_slot.Tie as tie
 
-returns : tie.Need-returns
-returns c = sym (no_such_slot c.before.args.c c.before.args.slot (omega arith))
+returns : tie.Need-returns-then-slot-ge-SLOTS
+returns c = sym (no_such_slot c.args.c c.args.slot (omega arith))
 
-add_back : tie.Need-overflow-add-back
+add_back : tie.Need-overflow_add-back
 add_back c = search rules
 
-sub_back : tie.Need-overflow-sub-back
+sub_back : tie.Need-overflow_sub-back
 sub_back c = search rules
 
-returns-2 : tie.Need-returns-2
-returns-2 c = sym (phase_too_far c.before.before.args.c c.before.before.args.slot (omega arith) (omega arith))
+returns-2 : tie.Need-returns-then-c-back
+returns-2 c = sym (phase_too_far c.args.c c.args.slot (omega arith) (omega arith))
 
-returns-3 : tie.Need-returns-3
-returns-3 c = sym (phase_back c.before.before.args.c c.before.before.args.slot (omega arith) (omega arith))
+returns-3 : tie.Need-returns
+returns-3 c = sym (phase_back c.args.c c.args.slot (omega arith) (omega arith))
 
-pub phase-with-slot-spec : {M : Type 1} → statement M
-phase-with-slot-spec = tie.close (tie.spec returns add_back sub_back returns-2 returns-3)
+pub phase_with_slot_spec : {M : Type 1} → statement M
+phase_with_slot_spec = tie.close (tie.spec returns add_back sub_back returns-2 returns-3)

@@ -30,11 +30,11 @@ by_tests a b same ha hb hi hj e =
     (tested₂ w32 eq_z same a.key b.key e ha hb)
     (ap₂ lt_z (held w32 a.report.id hi) (held w32 b.report.id hj)))
 
-is-same-requires : tie.Need-is-same-requires
+is-same-requires : tie.Need-is_same-requires
 is-same-requires c κs = search rules
 
 returns : tie.Need-returns
 returns c = search by_tests
 
-pub precedes-spec : {M : Type 1} → statement M
-precedes-spec = tie.close (tie.spec is-same-requires returns)
+pub precedes_spec : {M : Type 1} → statement M
+precedes_spec = tie.close (tie.spec is-same-requires returns)

@@ -6,14 +6,14 @@ use Rattle.ints.proofs.Machine.{known}
 use Rattle.records.proofs.order.slot_of_key.Statement.{statement}
 use Rattle.records.proofs.order.slot_of_key.Tie as tie
 
-returns : tie.Need-returns
-returns c = omega (arith, signed, known c.before.ranges.key)
+returns : tie.Need-returns-then-key-lt0
+returns c = omega (arith, signed, known c.ranges.key)
 
-cast-result : tie.Need-overflow-cast-result
-cast-result c = omega (arith, signed, known c.before.ranges.key)
+cast-result : tie.Need-overflow_cast-result
+cast-result c = omega (arith, signed, known c.ranges.key)
 
-returns-2 : tie.Need-returns-2
-returns-2 c = omega (arith, signed, known c.before.ranges.key)
+returns-2 : tie.Need-returns
+returns-2 c = omega (arith, signed, known c.ranges.key)
 
-pub slot-of-key-spec : {M : Type 1} → statement M
-slot-of-key-spec = tie.close (tie.spec returns cast-result returns-2)
+pub slot_of_key_spec : {M : Type 1} → statement M
+slot_of_key_spec = tie.close (tie.spec returns cast-result returns-2)

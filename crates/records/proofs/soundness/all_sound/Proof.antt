@@ -16,45 +16,45 @@ use Rattle.records.proofs.RecordsTurnLaws.{left, left-at_first, failed_here, pas
 use Rattle.records.proofs.soundness.all_sound.Statement.{statement}
 use Rattle.records.proofs.soundness.all_sound.Tie as tie
 
-abbrev invariant-loop : tie.invariant-loop
+abbrev invariant-loop : tie.invariant-loop-i
 invariant-loop words n time numbers i₀ i = (i ≤ n) × (all_sound (to_z w32 time) (read_records n words) ≡ all_sound (to_z w32 time) (left n i words))
 
-abbrev decreases-loop : tie.decreases-loop
+abbrev decreases-loop : tie.decreases-loop-i
 decreases-loop words n time numbers i₀ i = n - i
 
-curve-numbers-requires : tie.Need-curve-numbers-requires invariant-loop decreases-loop
+curve-numbers-requires : tie.Need-curve_numbers-numbers-requires invariant-loop decreases-loop
 curve-numbers-requires c κs = search rules
 
-loop-holds : tie.Need-loop-init invariant-loop decreases-loop
-loop-holds c = let a = c.before.args in (omega arith, ap (all_sound (back w32 a.time)) (left-at_first a.n a.words.now))
+loop-holds : tie.Need-loop-i-init invariant-loop decreases-loop
+loop-holds c = let a = c.args in (omega arith, ap (all_sound (back w32 a.time)) (left-at_first a.n a.words.now))
 
-mul-read-from : tie.Need-overflow-mul-read-from invariant-loop decreases-loop
+mul-read-from : tie.Need-overflow_mul-i invariant-loop decreases-loop
 mul-read-from c = search rules
 
-read-from-requires : tie.Need-read-from-requires invariant-loop decreases-loop
+read-from-requires : tie.Need-read_from-r-requires invariant-loop decreases-loop
 read-from-requires c κs = search rules
 
-is-sound-record-requires : tie.Need-is-sound-record-requires invariant-loop decreases-loop
+is-sound-record-requires : tie.Need-is_sound_record-requires invariant-loop decreases-loop
 is-sound-record-requires c κs =
     let k = c.before.before.before.before in
     let s = k.before in
-    record { curve = k.curve-numbers.ensures; is_time_lem = rw (held w32 s.args.time (search rules)) s.requires.is_time_lem }
+    record { curve = k.curve_numbers-numbers.ensures; is_time_lem = rw (held w32 s.args.time (search rules)) s.requires.is_time_lem }
 
 -- the entry, and the loop as seen from a test
-abbrev start : tie.At-loop invariant-loop decreases-loop → tie.Start invariant-loop decreases-loop
+abbrev start : tie.At-loop-i invariant-loop decreases-loop → tie.Start invariant-loop decreases-loop
 start c = c.before.before
 
-abbrev looping : tie.After-is-sound-record invariant-loop decreases-loop → tie.At-loop invariant-loop decreases-loop
+abbrev looping : tie.After-is_sound_record invariant-loop decreases-loop → tie.At-loop-i invariant-loop decreases-loop
 looping c = c.before.before.before.before
 
 -- the test of the record at i
 test :
-    (c : tie.After-is-sound-record invariant-loop decreases-loop)
-    → c.is-sound-record.result
-    ≡ is_sound_record (back w32 (start (looping c)).args.time) (record_from (start (looping c)).args.words.now (record_words * (looping c).loop.i))
+    (c : tie.After-is_sound_record invariant-loop decreases-loop)
+    → c.is_sound_record.result
+    ≡ is_sound_record (back w32 (start (looping c)).args.time) (record_from (start (looping c)).args.words.now (record_words * (looping c).loop-i.i))
 test c =
     let a = (start (looping c)).args in
-    c.is-sound-record.ensures ∙ ap (is_sound_record (back w32 a.time)) c.before.before.read-from.ensures
+    c.is_sound_record.ensures ∙ ap (is_sound_record (back w32 a.time)) c.read_from-r.ensures
 
 -- the time is read back as it is
 at-time :
@@ -62,38 +62,38 @@ at-time :
     → all_sound (back w32 c.args.time) (read_records c.args.n c.args.words.now) ≡ all_sound c.args.time (read_records c.args.n c.args.words.now)
 at-time c = ap (λ (z : ℤ). all_sound z (read_records c.args.n c.args.words.now)) (held w32 c.args.time (search rules))
 
-returns : tie.Need-returns invariant-loop decreases-loop
+returns : tie.Need-returns-then-not-is_sound_record invariant-loop decreases-loop
 returns c =
     let at = looping c.before in
     let a = (start at).args in
     let z = back w32 a.time in
-    failed_here (is_sound_record z) a.n at.loop.i a.words.now at.loop.inv.1 (omega arith)
-    (sym (test c.before) ∙ not-true c.before.is-sound-record.result c.if1.true)
+    failed_here (is_sound_record z) a.n at.loop-i.i a.words.now at.loop-i.invariant.1 (omega arith)
+    (sym (test c.before) ∙ c.if-not-is_sound_record.true)
     ∙ at-time (start at)
 
-add-i : tie.Need-overflow-add-i invariant-loop decreases-loop
+add-i : tie.Need-overflow_add-i invariant-loop decreases-loop
 add-i c = search rules
 
-loop-less : tie.Need-loop-smaller invariant-loop decreases-loop
+loop-less : tie.Need-loop-i-smaller invariant-loop decreases-loop
 loop-less c = search rules
 
-loop-again : tie.Need-loop-preserved invariant-loop decreases-loop
+loop-again : tie.Need-loop-i-preserved invariant-loop decreases-loop
 loop-again c =
     let at = looping c.before in
     let a = (start at).args in
     let z = back w32 a.time in
-    let next = sym (test c.before) ∙ not-false c.before.is-sound-record.result c.if1.false in
-    (omega arith, passed_here (is_sound_record z) a.n at.loop.i a.words.now at.loop.inv.1 (omega arith) next)
+    let next = sym (test c.before) ∙ c.if-not-is_sound_record.false in
+    (omega arith, passed_here (is_sound_record z) a.n at.loop-i.i a.words.now at.loop-i.invariant.1 (omega arith) next)
 
-returns-2 : tie.Need-returns-2 invariant-loop decreases-loop
+returns-2 : tie.Need-returns invariant-loop decreases-loop
 returns-2 c =
     let at = c.before in
     let a = (start at).args in
     let z = back w32 a.time in
-    passed_all (is_sound_record z) a.n at.loop.i a.words.now at.loop.invariant.1 (omega arith) ∙ at-time (start at)
+    passed_all (is_sound_record z) a.n at.loop-i.i a.words.now at.loop-i.invariant.1 (omega arith) ∙ at-time (start at)
 
-pub all-sound-spec : {M : Type 1} → statement M
-all-sound-spec =
+pub all_sound_spec : {M : Type 1} → statement M
+all_sound_spec =
     tie.close
     (tie.spec
     invariant-loop

@@ -16,48 +16,48 @@ use Rattle.records.proofs.RecordsTurnLaws.{zero-so_far, zero_to_the_end}
 use Rattle.records.proofs.soundness.all_zero.Statement.{statement}
 use Rattle.records.proofs.soundness.all_zero.Tie as tie
 
-abbrev invariant-loop : tie.invariant-loop
+abbrev invariant-loop : tie.invariant-loop-i
 invariant-loop words zero₀ i₀ zero i = (i ≤ length words) × (all_zero words ≡ zero && all_zero (drop i words))
 
-abbrev decreases-loop : tie.decreases-loop
+abbrev decreases-loop : tie.decreases-loop-i
 decreases-loop words zero₀ i₀ zero i = length words - i
 
-loop-holds : tie.Need-loop-init invariant-loop decreases-loop
+loop-holds : tie.Need-loop-i-init invariant-loop decreases-loop
 loop-holds c = (omega arith, refl)
 
-mul-is-same : tie.Need-overflow-mul-is-same invariant-loop decreases-loop
+mul-is-same : tie.Need-offset_bounds-words-i invariant-loop decreases-loop
 mul-is-same c = search rules
 
-shared-slice-copy-out-is-same : tie.Need-shared-slice-copy-out-is-same invariant-loop decreases-loop
+shared-slice-copy-out-is-same : tie.Need-bounds-words-i invariant-loop decreases-loop
 shared-slice-copy-out-is-same c = search rules
 
-is-same-requires : tie.Need-is-same-requires invariant-loop decreases-loop
+is-same-requires : tie.Need-is_same-zero-requires invariant-loop decreases-loop
 is-same-requires c κs = search rules
 
 -- the test of the word at i
-test : (c : tie.After-is-same invariant-loop decreases-loop) → c.is_same.result ≡ eq_z (get_or c.before.before.before.before.args.words.now c.before.before.before.loop.i (pos 0)) (pos 0)
+test : (c : tie.After-is_same-zero invariant-loop decreases-loop) → c.is_same-zero.result ≡ eq_z (get_or c.args.words.now c.loop-i.i (pos 0)) (pos 0)
 test c =
     let at = c.before.before.before in
-    tested₁ w32 (λ (z : ℤ). eq_z z (pos 0)) c.is_same.result (get_or at.before.args.words.now at.loop.i (pos 0)) c.is_same.ensures c.before.is-same-arg.given
+    tested₁ w32 (λ (z : ℤ). eq_z z (pos 0)) c.is_same-zero.result (get_or at.args.words.now at.loop-i.i (pos 0)) c.is_same-zero.ensures c.is_same-arg-1.given
 
-add-i : tie.Need-overflow-add-i invariant-loop decreases-loop
+add-i : tie.Need-overflow_add-i invariant-loop decreases-loop
 add-i c = search rules
 
-loop-less : tie.Need-loop-smaller invariant-loop decreases-loop
+loop-less : tie.Need-loop-i-smaller invariant-loop decreases-loop
 loop-less c = search rules
 
-loop-again : tie.Need-loop-preserved invariant-loop decreases-loop
+loop-again : tie.Need-loop-i-preserved invariant-loop decreases-loop
 loop-again c =
     let at = c.before.before.before in
-    let words = at.before.args.words.now in
-    let further = zero-so_far words at.loop.i at.loop.zero at.loop.invariant.1 (omega arith) in
+    let words = at.args.words.now in
+    let further = zero-so_far words at.loop-i.i at.loop-i.zero at.loop-i.invariant.1 (omega arith) in
     (omega arith, rw (test c) further)
 
 returns : tie.Need-returns invariant-loop decreases-loop
-returns c = zero_to_the_end c.before.before.args.words.now c.before.loop.i c.before.loop.zero c.before.loop.invariant.1 (omega arith)
+returns c = zero_to_the_end c.args.words.now c.loop-i.i c.loop-i.zero c.loop-i.invariant.1 (omega arith)
 
-pub all-zero-spec : {M : Type 1} → statement M
-all-zero-spec =
+pub all_zero_spec : {M : Type 1} → statement M
+all_zero_spec =
     tie.close
     (tie.spec
     invariant-loop

@@ -7,17 +7,17 @@ use borrow.Author.Rules.{rules}
 use Rattle.records.proofs.soundness.are_speeds.Statement.{statement}
 use Rattle.records.proofs.soundness.are_speeds.Tie as tie
 
-is-between-requires : tie.Need-is-between-requires
+is-between-requires : tie.Need-is_between-requires
 is-between-requires c κs = search rules
 
-is-between-requires-2 : tie.Need-is-between-requires-2
+is-between-requires-2 : tie.Need-is_between-requires-then-is_between
 is-between-requires-2 c κs = search rules
 
-returns : tie.Need-returns
+returns : tie.Need-returns-then-is_between
 returns c = search (both, neither, tested₁ w32 is_speed)
 
-returns-2 : tie.Need-returns-2
+returns-2 : tie.Need-returns-else-is_between
 returns-2 c = search (both, neither, tested₁ w32 is_speed)
 
-pub are-speeds-spec : {M : Type 1} → statement M
-are-speeds-spec = tie.close (tie.spec is-between-requires is-between-requires-2 returns returns-2)
+pub are_speeds_spec : {M : Type 1} → statement M
+are_speeds_spec = tie.close (tie.spec is-between-requires is-between-requires-2 returns returns-2)

@@ -10,8 +10,8 @@ use Rattle.records.proofs.soundness.drift_of.Tie as tie
 
 narrow-requires : tie.Need-narrow-requires
 narrow-requires c κs =
-    let r = c.before.args.r in
-    let v = (ranges r c.before.requires).vx in
+    let r = c.args.r in
+    let v = (ranges r c.requires).vx in
     rw (speed_held r.vx v) v
 
 narrow-requires-2 : tie.Need-narrow-requires-2
@@ -27,8 +27,8 @@ returns c =
     let v = ranges s.args.r s.requires in
     λ i. record {
       vx = (held w16 n1.narrow.result (search rules) ∙ n1.narrow.ensures ∙ speed_held s.args.r.vx v.vx) i;
-      vy = (held w16 c.narrow2.result (search rules) ∙ c.narrow2.ensures ∙ speed_held s.args.r.vy v.vy) i;
+      vy = (held w16 c.narrow-2.result (search rules) ∙ c.narrow-2.ensures ∙ speed_held s.args.r.vy v.vy) i;
     }
 
-pub drift-of-spec : {M : Type 1} → statement M
-drift-of-spec = tie.close (tie.spec narrow-requires narrow-requires-2 returns)
+pub drift_of_spec : {M : Type 1} → statement M
+drift_of_spec = tie.close (tie.spec narrow-requires narrow-requires-2 returns)

@@ -22,17 +22,17 @@ use Rattle.records.proofs.SoundnessIdsLaws.{still_distinct, distinct-at_first, s
 use Rattle.records.proofs.soundness.ids_distinct.Statement.{statement}
 use Rattle.records.proofs.soundness.ids_distinct.Tie as tie
 
-abbrev invariant-loop : tie.invariant-loop
+abbrev invariant-loop : tie.invariant-loop-i
 invariant-loop words n marks₀ i₀ marks i =
     (i ≤ n)
     × (length marks ≡ mark_bytes)
     × (all_ranged (left n i words) ≡ true)
     × (ids_distinct (read_records n words) ≡ still_distinct marks (left n i words))
 
-abbrev decreases-loop : tie.decreases-loop
+abbrev decreases-loop : tie.decreases-loop-i
 decreases-loop words n marks₀ i₀ marks i = n - i
 
-loop-holds : tie.Need-loop-init invariant-loop decreases-loop
+loop-holds : tie.Need-loop-i-init invariant-loop decreases-loop
 loop-holds c =
     let a = c.args in (
       omega arith,
@@ -41,93 +41,93 @@ loop-holds c =
       distinct-at_first mark_bytes a.n a.words.now,
     )
 
-mul-index-of : tie.Need-overflow-mul-index-of invariant-loop decreases-loop
+mul-index-of : tie.Need-overflow_mul-i invariant-loop decreases-loop
 mul-index-of c = search rules
 
-add-index-of : tie.Need-overflow-add-index-of invariant-loop decreases-loop
+add-index-of : tie.Need-overflow_add-i invariant-loop decreases-loop
 add-index-of c = search rules
 
-mul-index-of-2 : tie.Need-overflow-mul-index-of-2 invariant-loop decreases-loop
+mul-index-of-2 : tie.Need-offset_bounds-words-i invariant-loop decreases-loop
 mul-index-of-2 c = search rules
 
-shared-slice-copy-out-index-of : tie.Need-shared-slice-copy-out-index-of invariant-loop decreases-loop
+shared-slice-copy-out-index-of : tie.Need-bounds-words-i invariant-loop decreases-loop
 shared-slice-copy-out-index-of c = search rules
 
 -- the id of the record at i
-ranged : (c : tie.In-loop invariant-loop decreases-loop) → is_ranged (record_from c.before.before.args.words.now (record_words * c.before.loop.i)) ≡ true
-ranged c = (ranged_here c.before.before.args.n c.before.loop.i c.before.before.args.words.now (omega arith) c.before.loop.invariant.2).0
+ranged : (c : tie.In-loop-i invariant-loop decreases-loop) → is_ranged (record_from c.args.words.now (record_words * c.loop-i.i)) ≡ true
+ranged c = (ranged_here c.args.n c.loop-i.i c.args.words.now (omega arith) c.loop-i.invariant.2).0
 
-index-of-requires : tie.Need-index-of-requires invariant-loop decreases-loop
+index-of-requires : tie.Need-index_of-id-requires invariant-loop decreases-loop
 index-of-requires c κs =
     let at = c.before.before in
-    let id = get_or at.before.args.words.now (record_words * at.loop.i + 1) (pos 0) in
-    rw (held w32 id c.index-of-arg.given) (from_between 1 last_id id (id_from _ (ranged c.before)))
+    let id = get_or at.args.words.now (record_words * at.loop-i.i + 1) (pos 0) in
+    rw (held w32 id c.index_of-arg-1.given) (from_between 1 last_id id (id_from _ (ranged c.before)))
 
 index_is :
-    (c : tie.After-index-of invariant-loop decreases-loop)
-    → c.index_of.result ≡ up (get_or c.before.before.before.before.args.words.now (record_words * c.before.before.before.loop.i + 1) (pos 0))
+    (c : tie.After-index_of-id invariant-loop decreases-loop)
+    → c.index_of-id.result ≡ up (get_or c.args.words.now (record_words * c.loop-i.i + 1) (pos 0))
 index_is c =
     let at = c.before.before.before in
-    let id = get_or at.before.args.words.now (record_words * at.loop.i + 1) (pos 0) in
-    tested₁ w32 up c.index_of.result id c.index_of.ensures c.before.index-of-arg.given
+    let id = get_or at.args.words.now (record_words * at.loop-i.i + 1) (pos 0) in
+    tested₁ w32 up c.index_of-id.result id c.index_of-id.ensures c.index_of-arg-1.given
 
-index_below : (c : tie.After-index-of invariant-loop decreases-loop) → c.index_of.result < id_marks
+index_below : (c : tie.After-index_of-id invariant-loop decreases-loop) → c.index_of-id.result < id_marks
 index_below c = let f = id_from _ (ranged c.before.before) in omega (arith, index_is c)
 
-is-marked-requires : tie.Need-is-marked-requires invariant-loop decreases-loop
+is-marked-requires : tie.Need-is_marked-requires invariant-loop decreases-loop
 is-marked-requires c κs = index_below c.before
 
 -- the loop, as seen from a test
-abbrev looping : tie.After-is-marked invariant-loop decreases-loop → tie.At-loop invariant-loop decreases-loop
+abbrev looping : tie.After-is_marked invariant-loop decreases-loop → tie.At-loop-i invariant-loop decreases-loop
 looping c = let i = c.before.before in i.before.before.before
 
 -- whether the id of the record at i is marked
 marked :
-    (c : tie.After-is-marked invariant-loop decreases-loop)
+    (c : tie.After-is_marked invariant-loop decreases-loop)
     → let at = looping c in
-    c.is-marked.result ≡ is_marked at.loop.marks (up (get_or at.before.args.words.now (record_words * at.loop.i + 1) (pos 0)))
-marked c = let at = looping c in c.is-marked.ensures ∙ ap (is_marked at.loop.marks) (index_is c.before.before)
+    c.is_marked.result ≡ is_marked at.loop-i.marks (up (get_or at.args.words.now (record_words * at.loop-i.i + 1) (pos 0)))
+marked c = let at = looping c in c.is_marked.ensures ∙ ap (is_marked at.loop-i.marks) (index_is c.before.before)
 
-returns : tie.Need-returns invariant-loop decreases-loop
+returns : tie.Need-returns-then-is_marked invariant-loop decreases-loop
 returns c =
     let m = c.before in
     let at = looping m in
-    let a = at.before.args in
-    seen_twice a.n at.loop.i a.words.now at.loop.marks at.loop.inv.3 (omega arith) (sym (marked m) ∙ c.if1.true)
+    let a = at.args in
+    seen_twice a.n at.loop-i.i a.words.now at.loop-i.marks at.loop-i.invariant.3 (omega arith) (sym (marked m) ∙ c.if-is_marked.true)
 
 mark-requires : tie.Need-mark-requires invariant-loop decreases-loop
 mark-requires c κs = index_below c.before.before.before.before
 
-add-i : tie.Need-overflow-add-i invariant-loop decreases-loop
+add-i : tie.Need-overflow_add-i-in-loop-i invariant-loop decreases-loop
 add-i c = search rules
 
-loop-less : tie.Need-loop-smaller invariant-loop decreases-loop
+loop-less : tie.Need-loop-i-smaller invariant-loop decreases-loop
 loop-less c = search rules
 
-loop-again : tie.Need-loop-preserved invariant-loop decreases-loop
+loop-again : tie.Need-loop-i-preserved invariant-loop decreases-loop
 loop-again c =
     let e = c.before.before in
     let m = e.before in
     let at = looping m in
-    let a = at.before.args in
-    let i = at.loop.i in
+    let a = at.args in
+    let i = at.loop-i.i in
     let id = up (get_or a.words.now (record_words * i + 1) (pos 0)) in
-    let set_there = c.mark.ensures ∙ ap (with_mark at.loop.marks) (index_is m.before.before) in
-    let once = seen_once a.n i a.words.now at.loop.marks at.loop.inv.3 (omega arith) (sym (marked m) ∙ e.if1.false) at.loop.inv.1 at.loop.inv.2 in (
+    let set_there = c.mark.ensures ∙ ap (with_mark at.loop-i.marks) (index_is m.before.before) in
+    let once = seen_once a.n i a.words.now at.loop-i.marks at.loop-i.invariant.3 (omega arith) (sym (marked m) ∙ e.if-is_marked.false) at.loop-i.invariant.1 at.loop-i.invariant.2 in (
       omega arith,
-      ap length set_there ∙ length-set at.loop.marks (id / 8) _ ∙ at.loop.inv.1,
-      (ranged_here a.n i a.words.now (omega arith) at.loop.inv.2).1,
+      ap length set_there ∙ length-set at.loop-i.marks (id / 8) _ ∙ at.loop-i.invariant.1,
+      (ranged_here a.n i a.words.now (omega arith) at.loop-i.invariant.2).1,
       once ∙ ap (λ (marks : List ℕ). still_distinct marks (left a.n (i + 1) a.words.now)) (sym set_there),
     )
 
-returns-2 : tie.Need-returns-2 invariant-loop decreases-loop
+returns-2 : tie.Need-returns invariant-loop decreases-loop
 returns-2 c =
     let at = c.before in
-    let a = at.before.args in
-    all_seen a.n at.loop.i a.words.now at.loop.marks at.loop.invariant.3 (omega arith)
+    let a = at.args in
+    all_seen a.n at.loop-i.i a.words.now at.loop-i.marks at.loop-i.invariant.3 (omega arith)
 
-pub ids-distinct-spec : {M : Type 1} → statement M
-ids-distinct-spec =
+pub ids_distinct_spec : {M : Type 1} → statement M
+ids_distinct_spec =
     tie.close
     (tie.spec
     invariant-loop

@@ -8,11 +8,11 @@ use Rattle.records.proofs.SoundnessRangeLaws.{between_from}
 use Rattle.records.proofs.soundness.index_of.Statement.{statement}
 use Rattle.records.proofs.soundness.index_of.Tie as tie
 
-cast-result : tie.Need-overflow-cast-result
+cast-result : tie.Need-overflow_cast-result
 cast-result c = let f = between_from 1 last_id c.args.id c.requires in omega (arith, signed, known c.ranges.id)
 
 returns : tie.Need-returns
 returns c = let f = between_from 1 last_id c.args.id c.requires in omega (arith, signed, known c.ranges.id)
 
-pub index-of-spec : {M : Type 1} → statement M
-index-of-spec = tie.close (tie.spec cast-result returns)
+pub index_of_spec : {M : Type 1} → statement M
+index_of_spec = tie.close (tie.spec cast-result returns)

@@ -12,19 +12,19 @@ use borrow.Author.Rules.{rules}
 use Rattle.records.proofs.soundness.is_in_row.Statement.{statement}
 use Rattle.records.proofs.soundness.is_in_row.Tie as tie
 
-slot-of-key-requires : tie.Need-slot-of-key-requires
+slot-of-key-requires : tie.Need-slot_of_key-requires
 slot-of-key-requires c κs = search rules
 
-number-of-key-requires : tie.Need-number-of-key-requires
+number-of-key-requires : tie.Need-number_of_key-requires
 number-of-key-requires c κs = search rules
 
-slot_is : (c : tie.After-slot-of-key) → c.slot-of-key.result ≡ slot_of_key c.before.before.args.r.key
-slot_is c = tested₁ w32 slot_of_key c.slot-of-key.result c.before.before.args.r.key c.slot-of-key.ensures (search rules)
+slot_is : (c : tie.After-slot_of_key) → c.slot_of_key.result ≡ slot_of_key c.args.r.key
+slot_is c = tested₁ w32 slot_of_key c.slot_of_key.result c.args.r.key c.slot_of_key.ensures (search rules)
 
-number_is : (c : tie.After-number-of-key) → c.number-of-key.result ≡ number_of_key c.before.before.before.before.args.r.key
-number_is c = tested₁ w32 number_of_key c.number-of-key.result c.before.before.before.before.args.r.key c.number-of-key.ensures (search rules)
+number_is : (c : tie.After-number_of_key) → c.number_of_key.result ≡ number_of_key c.args.r.key
+number_is c = tested₁ w32 number_of_key c.number_of_key.result c.args.r.key c.number_of_key.ensures (search rules)
 
-read-requires : tie.Need-read-requires
+read-requires : tie.Need-read-row-requires
 read-requires c κs =
     let s = c.before.before.before.before in
     record {
@@ -33,7 +33,7 @@ read-requires c κs =
       number_on = omega (arith, number_is c, number_of_key-below s.args.r.key);
     }
 
-drift-of-requires : tie.Need-drift-of-requires
+drift-of-requires : tie.Need-drift_of-requires
 drift-of-requires c κs =
     let nu = c.before in
     let s = nu.before.before.before.before in
@@ -49,9 +49,9 @@ returns c =
     let nu = rd.before in
     let sl = nu.before.before in
     let s = sl.before.before in
-    let row = rd.read.ensures ∙ ap₂ (row_at s.args.table.now) (slot_is sl) (number_is nu) in
-    c.holds.ensures ∙ ap₂ holds row v.drift-of.ensures
+    let row = rd.read-row.ensures ∙ ap₂ (row_at s.args.table.now) (slot_is sl) (number_is nu) in
+    c.holds.ensures ∙ ap₂ holds row v.drift_of.ensures
 
-pub is-in-row-spec : {M : Type 1} → statement M
-is-in-row-spec =
+pub is_in_row_spec : {M : Type 1} → statement M
+is_in_row_spec =
     tie.close (tie.spec slot-of-key-requires number-of-key-requires read-requires drift-of-requires holds-requires returns)

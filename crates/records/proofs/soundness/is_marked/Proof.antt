@@ -10,16 +10,16 @@ use lib.ListN.{get_or}
 use Rattle.records.proofs.soundness.is_marked.Statement.{statement}
 use Rattle.records.proofs.soundness.is_marked.Tie as tie
 
-element-copy-out-result : tie.Need-element-copy-out-result
+element-copy-out-result : tie.Need-bounds-marks-id
 element-copy-out-result c = search rules
 
-bit-of-requires : tie.Need-bit-of-requires
+bit-of-requires : tie.Need-bit_of-requires
 bit-of-requires c κs = search rules
 
 returns : tie.Need-returns
 returns c =
-    let a = c.before.before.args in
+    let a = c.args in
     ap (λ (b : ℕ). not (eqb (bit_and (get_or a.marks.now (a.id / 8) 0) b) 0)) c.bit_of.ensures
 
-pub is-marked-spec : {M : Type 1} → statement M
-is-marked-spec = tie.close (tie.spec element-copy-out-result bit-of-requires returns)
+pub is_marked_spec : {M : Type 1} → statement M
+is_marked_spec = tie.close (tie.spec element-copy-out-result bit-of-requires returns)

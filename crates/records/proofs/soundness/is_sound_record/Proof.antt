@@ -14,56 +14,56 @@ use borrow.Author.Rules.{rules}
 use Rattle.records.proofs.soundness.is_sound_record.Statement.{statement}
 use Rattle.records.proofs.soundness.is_sound_record.Tie as tie
 
-in-range-requires : tie.Need-in-range-requires
+in-range-requires : tie.Need-in_range-requires
 in-range-requires c κs = search rules
 
-returns : tie.Need-returns
+returns : tie.Need-returns-then-not-in_range
 unfolding is_sound_record
-returns c = let e = sym c.before.in_range_lem.ensures ∙ not-true c.before.in_range_lem.result c.if1.true in sym (simp e)
+returns c = let e = sym c.in_range.ensures ∙ c.if-not-in_range.true in sym (simp e)
 
-is-between-requires : tie.Need-is-between-requires
+is-between-requires : tie.Need-is_between-requires
 is-between-requires c κs = search rules
 
-in-range-is : (c : tie.Else1) → in_range c.before.before.args.r.report ≡ true
-in-range-is c = sym c.before.in_range_lem.ensures ∙ not-false c.before.in_range_lem.result c.if1.false
+in-range-is : (c : tie.Else-not-in_range) → in_range c.args.r.report ≡ true
+in-range-is c = sym c.in_range.ensures ∙ c.if-not-in_range.false
 
-not_after : (c : tie.After-is-between) → c.is_between.result ≡ between (pos 0) c.before.before.before.before.args.time c.before.before.before.before.args.r.report.t
+not_after : (c : tie.After-is_between) → c.is_between.result ≡ between (pos 0) c.args.time c.args.r.report.t
 not_after c =
-    let a = c.before.before.before.before.args in
+    let a = c.args in
     tested₂ w32 (between (pos 0)) c.is_between.result a.time a.r.report.t c.is_between.ensures (search rules) (search rules)
 
-returns-2 : tie.Need-returns-2
+returns-2 : tie.Need-returns-then-not-is_between
 unfolding is_sound_record
-returns-2 c = let e = sym (not_after c.before) ∙ not-true c.before.is_between.result c.if2.true in sym (simp (in-range-is c.before.before.before, e))
+returns-2 c = let e = sym (not_after c.before) ∙ c.if-not-is_between.true in sym (simp (in-range-is c.before.before.before, e))
 
 -- the entry
-abbrev start : tie.Else2 → tie.Start
+abbrev start : tie.Else-not-is_between → tie.Start
 start c =
     let e = c.before.before.before in
     e.before.before
 
-key-is-right-requires : tie.Need-key-is-right-requires
+key-is-right-requires : tie.Need-key_is_right-requires
 key-is-right-requires c κs =
     let s = start c in
-    let e = sym (not_after c.before) ∙ not-false c.before.is_between.result c.if2.false in
+    let e = sym (not_after c.before) ∙ c.if-not-is_between.false in
     record {
-      curve = s.pre.curve;
-      is_time_lem = rw (held w32 s.args.time (search rules)) s.pre.is_time_lem;
+      curve = s.requires.curve;
+      is_time_lem = rw (held w32 s.args.time (search rules)) s.requires.is_time_lem;
       in_range_lem = in-range-is c.before.before.before;
-      sent = earlier_time s.args.time s.args.r.report.t s.pre.is_time_lem e;
+      sent = earlier_time s.args.time s.args.r.report.t s.requires.is_time_lem e;
     }
 
-returns-3 : tie.Need-returns-3
+returns-3 : tie.Need-returns
 unfolding is_sound_record
 returns-3 c =
     let e = c.before in
     let a = (start e).args in
-    let b = sym (not_after e.before) ∙ not-false e.before.is_between.result e.if2.false in
-    tested₁ w32 (λ z. key_is_right z a.r) c.key-is-right.result a.time c.key-is-right.ensures (search rules)
+    let b = sym (not_after e.before) ∙ e.if-not-is_between.false in
+    tested₁ w32 (λ z. key_is_right z a.r) c.key_is_right.result a.time c.key_is_right.ensures (search rules)
     ∙ sym (simp (in-range-is e.before.before.before, b))
 
-pub is-sound-record-spec : {M : Type 1} → statement M
-is-sound-record-spec =
+pub is_sound_record_spec : {M : Type 1} → statement M
+is_sound_record_spec =
     tie.close
     (tie.spec
     in-range-requires

@@ -11,37 +11,37 @@ use borrow.Author.Rules.{rules}
 use Rattle.records.proofs.soundness.is_sound_store.Statement.{statement}
 use Rattle.records.proofs.soundness.is_sound_store.Tie as tie
 
-returns : tie.Need-returns
+returns : tie.Need-returns-then-store-ne-STORE_WORDS
 unfolding is_sound_store
-returns c = sym (simp (ne_eqb (length c.before.args.store.now) store_words c.if1.true))
+returns c = sym (simp (ne_eqb (length c.args.store.now) store_words c.if-store-ne-STORE_WORDS.true))
 
-is-sound-header-requires : tie.Need-is-sound-header-requires
+is-sound-header-requires : tie.Need-is_sound_header-requires
 is-sound-header-requires c κs = search rules
 
-long : (c : tie.Else1) → eqb (length c.before.args.store.now) store_words ≡ true
-long c = eq-eqb (length c.before.args.store.now) store_words c.if1.false
+long : (c : tie.Else-store-ne-STORE_WORDS) → eqb (length c.args.store.now) store_words ≡ true
+long c = eq-eqb (length c.args.store.now) store_words c.if-store-ne-STORE_WORDS.false
 
-returns-2 : tie.Need-returns-2
+returns-2 : tie.Need-returns-then-not-is_sound_header
 unfolding is_sound_store
 returns-2 c =
-    let e = sym c.before.is-sound-header.ensures ∙ not-true c.before.is-sound-header.result c.if2.true in
+    let e = sym c.is_sound_header.ensures ∙ c.if-not-is_sound_header.true in
     sym (simp (long c.before.before, e))
 
-is-sound-body-requires : tie.Need-is-sound-body-requires
+is-sound-body-requires : tie.Need-is_sound_body-requires
 is-sound-body-requires c κs =
     record {
-      long = c.before.before.if1.false;
-      header = sym c.before.is-sound-header.ensures ∙ not-false c.before.is-sound-header.result c.if2.false;
+      long = c.if-store-ne-STORE_WORDS.false;
+      header = sym c.is_sound_header.ensures ∙ c.if-not-is_sound_header.false;
     }
 
-returns-3 : tie.Need-returns-3
+returns-3 : tie.Need-returns
 unfolding is_sound_store
 returns-3 c =
     let g = c.before in
-    let e = sym g.before.is-sound-header.ensures ∙ not-false g.before.is-sound-header.result g.if2.false in
-    c.is-sound-body.ensures ∙ sym (simp (long g.before.before, e))
+    let e = sym g.is_sound_header.ensures ∙ g.if-not-is_sound_header.false in
+    c.is_sound_body.ensures ∙ sym (simp (long g.before.before, e))
 
-pub is-sound-store-spec : {M : Type 1} → statement M
-is-sound-store-spec =
+pub is_sound_store_spec : {M : Type 1} → statement M
+is_sound_store_spec =
     tie.close
     (tie.spec returns is-sound-header-requires returns-2 is-sound-body-requires returns-3)

@@ -17,11 +17,11 @@ small c =
     let s = speed_size c.args.v c.requires in
     rw (held w32 c.args.v (search rules)) (fits (omega (arith, abs c.args.v, one_part c.args.v)))
 
-cast-result : tie.Need-overflow-cast-result
+cast-result : tie.Need-overflow_cast-result
 cast-result c = small c
 
 returns : tie.Need-returns
 returns c = to_z-of_z (small c) ∙ held w32 c.args.v (search rules)
 
-pub narrow-spec : {M : Type 1} → statement M
-narrow-spec = tie.close (tie.spec cast-result returns)
+pub narrow_spec : {M : Type 1} → statement M
+narrow_spec = tie.close (tie.spec cast-result returns)
