@@ -49,7 +49,7 @@ speed_size v h =
     omega (arith, abs v, one_part v)
 
 pub speed_held : (v : ℤ) → is_speed v ≡ true → back w32 v ≡ v
-speed_held v h = to_z-of_z (fits (omega (arith, speed_size v h, abs v)))
+speed_held v h = to_z-of_z {w = w32} (fits (omega (arith, speed_size v h, abs v)))
 
 -- ---- a report
 

@@ -37,7 +37,7 @@ place c =
     let s = start c.before in
     place_at s.args.full.now s.args.k s.requires.room s.requires.all_places c.loop-i.i c.loop-i-test.true
 
-room : (c : tie.In-loop-i invariant-loop decreases-loop) → let l = c.loop-i in (l.m < length l.auto) × (l.m < cells)
+room : (c : tie.In-loop-i invariant-loop decreases-loop) → let l = c.loop-i in (l.m < length l.kept) × (l.m < cells)
 room c =
     let s = start c.before in
     let l = c.loop-i in
@@ -95,7 +95,7 @@ loop-again c =
     let long = l.invariant.1 in (
       omega (arith, within),
       simp length-set long,
-      growing_next _ (take s.args.k full) l.auto l.m _ _ _ l.invariant.2 (next_number full s.args.k s.requires.room l.i within) c.may_meet.result c.may_meet.ensures,
+      growing_next _ (take s.args.k full) l.kept l.m _ _ _ l.invariant.2 (next_number full s.args.k s.requires.room l.i within) c.may_meet.result c.may_meet.ensures,
     )
 
 same_length : tie.Need-shape_of-kept invariant-loop decreases-loop
@@ -106,7 +106,7 @@ returns c =
     let l = c.loop-i in
     let s = start c.before in
     let full = s.args.full.now in
-    keeps_columns _ _ _ l.auto l.m (growing_end _ (take s.args.k full) l.auto l.m _ l.invariant.2 (no_number full s.args.k s.requires.room l.i c.loop-i-test.false))
+    keeps_columns _ _ _ l.kept l.m (growing_end _ (take s.args.k full) l.kept l.m _ l.invariant.2 (no_number full s.args.k s.requires.room l.i c.loop-i-test.false))
 
 pub keep_columns_spec : {M : Type 1} → statement M
 keep_columns_spec =

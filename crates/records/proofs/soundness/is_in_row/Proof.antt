@@ -49,7 +49,7 @@ returns c =
     let nu = rd.before in
     let sl = nu.before.before in
     let s = sl.before.before in
-    let row = rd.read-row.ensures ∙ ap₂ (row_at s.args.table.now) (slot_is sl) (number_is nu) in
+    let row = rd.read-row.ensures ∙ ap₂ (row_at s.args.table.now) (slot_is sl.before) (number_is nu.before) in
     c.holds.ensures ∙ ap₂ holds row v.drift_of.ensures
 
 pub is_in_row_spec : {M : Type 1} → statement M

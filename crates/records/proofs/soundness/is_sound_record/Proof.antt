@@ -40,7 +40,7 @@ returns-2 c = let e = sym (not_after c.before) ∙ c.if-not-is_between.true in s
 abbrev start : tie.Else-not-is_between → tie.Start
 start c =
     let e = c.before.before.before in
-    e.before.before
+    e.before.before.before
 
 key-is-right-requires : tie.Need-key_is_right-requires
 key-is-right-requires c κs =

@@ -68,8 +68,8 @@ returns c =
 
 key-in-requires : tie.Need-key_in-requires
 key-in-requires c κs =
-    let s = start c.before in
-    let p = key-phase c.before in
+    let s = start c.before.before in
+    let p = key-phase c.before.before in
     record {
       curve = s.requires.curve;
       not_late = omega (arith, last_phase_lem s.args.time s.requires.is_time_lem, phase_of_key-small (phase_of s.args.time) s.args.r.key);
@@ -83,8 +83,8 @@ is-same-requires c κs = search rules
 returns-2 : tie.Need-returns
 returns-2 c =
     let e = c.before.before.before in
-    let a = (start e.before).args in
-    by_key a.time a.r _ _ (key-phase e.before) (report-phase e.before) e.if-p-phase_at.false c.is_same.result
+    let a = (start e.before.before).args in
+    by_key a.time a.r _ _ (key-phase e.before.before) (report-phase e.before.before) e.if-p-phase_at.false c.is_same.result
     (tested₂ w32 eq_z c.is_same.result a.r.key c.key_in.result c.is_same.ensures (search rules) (search rules)
     ∙ ap (eq_z a.r.key) c.key_in.ensures)
 
