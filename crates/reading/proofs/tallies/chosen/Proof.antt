@@ -6,11 +6,11 @@ use Rattle.ints.proofs.Machine.{held}
 use Rattle.reading.proofs.tallies.chosen.Statement.{statement}
 use Rattle.reading.proofs.tallies.chosen.Tie as tie
 
-returns : tie.Need-returns
-returns c = rw (c.if1.true, held w32 c.before.args.first (search rules))
+returns : tie.Need-returns-then-is_first
+returns c = rw (c.if-is_first.true, held w32 c.args.first (search rules))
 
-returns-2 : tie.Need-returns-2
-returns-2 c = rw (c.if1.false, held w32 c.before.args.second (search rules))
+returns-2 : tie.Need-returns-else-is_first
+returns-2 c = rw (c.if-is_first.false, held w32 c.args.second (search rules))
 
-pub chosen-spec : {M : Type 1} → statement M
-chosen-spec = tie.close (tie.spec returns returns-2)
+pub chosen_spec : {M : Type 1} → statement M
+chosen_spec = tie.close (tie.spec returns returns-2)

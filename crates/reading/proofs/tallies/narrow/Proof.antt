@@ -8,11 +8,11 @@ use Rattle.records.proofs.SoundnessRangeLaws.{between_from}
 use Rattle.reading.proofs.tallies.narrow.Statement.{statement}
 use Rattle.reading.proofs.tallies.narrow.Tie as tie
 
-cast-result : tie.Need-overflow-cast-result
+cast-result : tie.Need-overflow_cast-result
 cast-result c = omega (arith, signed, known c.ranges.id, between_from 1 last_id c.args.id c.requires.in_range_lem)
 
 returns : tie.Need-returns
 returns c = omega (arith, known c.ranges.id, between_from 1 last_id c.args.id c.requires.in_range_lem)
 
-pub narrow-spec : {M : Type 1} → statement M
-narrow-spec = tie.close (tie.spec cast-result returns)
+pub narrow_spec : {M : Type 1} → statement M
+narrow_spec = tie.close (tie.spec cast-result returns)

@@ -13,71 +13,71 @@ use Rattle.reading.proofs.TalliesLaws.{Pass, pass_start, pass_ranged, pass_room,
 use Rattle.reading.proofs.tallies.read_when.Statement.{statement}
 use Rattle.reading.proofs.tallies.read_when.Tie as tie
 
-abbrev invariant-loop : tie.invariant-loop
+abbrev invariant-loop : tie.invariant-loop-i
 invariant-loop words query ids₀ n tally₀ i₀ ids tally i = Pass words (is_listed query) ids₀ tally₀ n ids tally i
 
-abbrev decreases-loop : tie.decreases-loop
+abbrev decreases-loop : tie.decreases-loop-i
 decreases-loop words query ids₀ n tally₀ i₀ ids tally i = n - i
 
-loop-holds : tie.Need-loop-init invariant-loop decreases-loop
+loop-holds : tie.Need-loop-i-init invariant-loop decreases-loop
 loop-holds c = search pass_start
 
-mul-read-from : tie.Need-overflow-mul-read-from invariant-loop decreases-loop
+mul-read-from : tie.Need-overflow_mul-i invariant-loop decreases-loop
 mul-read-from c = search rules
 
-read-from-requires : tie.Need-read-from-requires invariant-loop decreases-loop
+read-from-requires : tie.Need-read_from-r-requires invariant-loop decreases-loop
 read-from-requires c κs = search rules
 
 narrow-requires : tie.Need-narrow-requires invariant-loop decreases-loop
 narrow-requires c κs = search (ranged_id, pass_ranged)
 
 -- the turn of the loop in which an id was narrowed
-abbrev turn : tie.After-narrow invariant-loop decreases-loop → tie.In-loop invariant-loop decreases-loop
+abbrev turn : tie.After-narrow invariant-loop decreases-loop → tie.In-loop-i invariant-loop decreases-loop
 turn c = c.before.before.before
 
-id-small : (c : tie.After-struct-told invariant-loop decreases-loop) → mag c.before.read-from.result.report.id < 2 ^ hbits w32
+id-small : (c : tie.After-struct_told-1 invariant-loop decreases-loop) → mag c.read_from-r.result.report.id < 2 ^ hbits w32
 id-small c = search rules
 
-mul-ids : tie.Need-overflow-mul-ids invariant-loop decreases-loop
-mul-ids c = omega (arith, (turn c).before.loop.invariant, (turn c).loop-test.true)
+mul-ids : tie.Need-offset_bounds-ids-at invariant-loop decreases-loop
+mul-ids c = omega (arith, (turn c).loop-i.invariant, (turn c).loop-i-test.true)
 
-slice-write-ids : tie.Need-slice-write-ids invariant-loop decreases-loop
+slice-write-ids : tie.Need-bounds-ids-at invariant-loop decreases-loop
 slice-write-ids c = search pass_room
 
-is-listed-requires : tie.Need-is-listed-requires invariant-loop decreases-loop
+is-listed-requires : tie.Need-is_listed-requires invariant-loop decreases-loop
 is-listed-requires c κs = search (ranged_small, pass_ranged)
 
-count-requires : tie.Need-count-requires invariant-loop decreases-loop
+count-requires : tie.Need-count-tally-requires invariant-loop decreases-loop
 count-requires c κs =
-    let l = turn c.before in
-    let p = l.before.loop.inv in
-    let h = l.loop-test.taken in
+    let l = turn c.before.before in
+    let p = l.loop-i.invariant in
+    let h = l.loop-i-test.true in
     record { few_listed = omega (arith, p, h); few_useful = omega (arith, p, h) }
 
-add-i : tie.Need-overflow-add-i invariant-loop decreases-loop
+add-i : tie.Need-overflow_add-i invariant-loop decreases-loop
 add-i c = search rules
 
-loop-less : tie.Need-loop-smaller invariant-loop decreases-loop
+loop-less : tie.Need-loop-i-smaller invariant-loop decreases-loop
 loop-less c = search rules
 
-loop-again : tie.Need-loop-preserved invariant-loop decreases-loop
+loop-again : tie.Need-loop-i-preserved invariant-loop decreases-loop
 loop-again c =
     let w = c.before.before in
-    let read = w.before.before.read-from in
-    let l = turn w in
-    let id = tested₁ w32 up w.narrow.result read.result.report.id w.narrow.ensures (id-small w.before) in
-    rw c.count.ensures
-    (pass_next _ _ _ _ _ _ _ _ l.before.loop.inv l.loop-test.taken
-    read.result read.ensures w.narrow.result id c.before.is-listed.result c.before.is-listed.ensures)
+    let read = w.read_from-r in
+    let l = turn w.before in
+    let id = tested₁ w32 up w.narrow.result read.result.report.id w.narrow.ensures (id-small w.before.before) in
+    rw c.count-tally.ensures
+    (pass_next _ _ _ _ _ _ _ _ l.loop-i.invariant l.loop-i-test.true
+    read.result read.ensures w.narrow.result id c.is_listed.result c.is_listed.ensures)
 
-same_length : tie.Need-same-length invariant-loop decreases-loop
-same_length c = c.before.loop.invariant.long
+same_length : tie.Need-shape_of-ids invariant-loop decreases-loop
+same_length c = c.loop-i.invariant.long
 
 returns : tie.Need-returns invariant-loop decreases-loop
-returns c = pass_end _ _ _ _ _ _ _ _ c.before.loop.invariant c.loop-test.false
+returns c = pass_end _ _ _ _ _ _ _ _ c.loop-i.invariant c.loop-i-test.false
 
-pub read-when-spec : {M : Type 1} → statement M
-read-when-spec =
+pub read_when_spec : {M : Type 1} → statement M
+read_when_spec =
     tie.close
     (tie.spec
     invariant-loop

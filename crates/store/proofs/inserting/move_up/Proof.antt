@@ -10,40 +10,40 @@ use Rattle.store.proofs.InsertingLaws.{moved_up_lem, up_done}
 use Rattle.store.proofs.inserting.move_up.Statement.{statement}
 use Rattle.store.proofs.inserting.move_up.Tie as tie
 
-abbrev invariant-loop : tie.invariant-loop
+abbrev invariant-loop : tie.invariant-loop-i
 invariant-loop words₀ i₀ words i = (words ≡ moved_up (pos 0) 7 words₀ i) × (7 ≤ i) × (i ≤ length words₀) × (length words ≡ length words₀)
 
-abbrev decreases-loop : tie.decreases-loop
+abbrev decreases-loop : tie.decreases-loop-i
 decreases-loop words₀ i₀ words i = i
 
-loop-holds : tie.Need-loop-init invariant-loop decreases-loop
+loop-holds : tie.Need-loop-i-init invariant-loop decreases-loop
 loop-holds c = (up_start (pos 0) 7 _ c.requires, search rules, search rules, refl)
 
-sub-i : tie.Need-overflow-sub-i invariant-loop decreases-loop
+sub-i : tie.Need-overflow_sub-i invariant-loop decreases-loop
 sub-i c = search rules
 
-sub-v : tie.Need-overflow-sub-v invariant-loop decreases-loop
+sub-v : tie.Need-overflow_sub-v invariant-loop decreases-loop
 sub-v c = search rules
 
-mul-v : tie.Need-overflow-mul-v invariant-loop decreases-loop
+mul-v : tie.Need-offset_bounds-words-i invariant-loop decreases-loop
 mul-v c = search rules
 
-slice-copy-out-v : tie.Need-slice-copy-out-v invariant-loop decreases-loop
+slice-copy-out-v : tie.Need-slice_copy_out-v invariant-loop decreases-loop
 slice-copy-out-v c = search rules
 
-mul-v-2 : tie.Need-overflow-mul-v-2 invariant-loop decreases-loop
+mul-v-2 : tie.Need-offset_bounds-words-i-in-loop-i invariant-loop decreases-loop
 mul-v-2 c = search rules
 
-slice-set-from-v : tie.Need-slice-set-from-v invariant-loop decreases-loop
+slice-set-from-v : tie.Need-bounds-words-i invariant-loop decreases-loop
 slice-set-from-v c = search rules
 
-loop-less : tie.Need-loop-smaller invariant-loop decreases-loop
+loop-less : tie.Need-loop-i-smaller invariant-loop decreases-loop
 loop-less c = search rules
 
-loop-again : tie.Need-loop-preserved invariant-loop decreases-loop
+loop-again : tie.Need-loop-i-preserved invariant-loop decreases-loop
 loop-again c = (search moved_up_lem, search rules, search rules, simp length-set (search rules))
 
-same_length : tie.Need-same-length invariant-loop decreases-loop
+same_length : tie.Need-shape_of-words invariant-loop decreases-loop
 same_length c = search rules
 
 returns : tie.Need-returns invariant-loop decreases-loop

@@ -11,76 +11,76 @@ use Rattle.store.proofs.InsertingLaws.{insert_done}
 use Rattle.store.proofs.inserting.put.Statement.{statement}
 use Rattle.store.proofs.inserting.put.Tie as tie
 
-held-of-requires : tie.Need-held-of-requires
-held-of-requires c κs = omega (arith, words_room _ c.before.requires.store)
+held-of-requires : tie.Need-held_of-n-requires
+held-of-requires c κs = omega (arith, words_room _ c.requires.store)
 
-place-of-requires : tie.Need-place-of-requires
-place-of-requires c κs = let a = c.before.before.before in record { store = a.requires.store; sorted = a.requires.sorted }
+place-of-requires : tie.Need-place_of-requires
+place-of-requires c κs = let a = c in record { store = a.requires.store; sorted = a.requires.sorted }
 
-mul-start : tie.Need-overflow-mul-start
-mul-start c = omega (arith, words_room _ c.before.before.before.before.requires.store, c.before.before.held_of.ensures, within _ _ _ c.place_of.ensures)
+mul-start : tie.Need-overflow_mul-start
+mul-start c = omega (arith, words_room _ c.requires.store, c.held_of-n.ensures, within _ _ _ c.place_of.ensures)
 
-add_start : tie.Need-overflow-add-start
-add_start c = omega (arith, words_room _ c.before.before.before.before.requires.store, c.before.before.held_of.ensures, within _ _ _ c.place_of.ensures)
+add_start : tie.Need-overflow_add-start
+add_start c = omega (arith, words_room _ c.requires.store, c.held_of-n.ensures, within _ _ _ c.place_of.ensures)
 
-mul-end : tie.Need-overflow-mul-end
-mul-end c = omega (arith, words_room _ c.before.before.before.before.requires.store, c.before.before.held_of.ensures, within _ _ _ c.place_of.ensures)
+mul-end : tie.Need-overflow_mul-end
+mul-end c = omega (arith, words_room _ c.requires.store, c.held_of-n.ensures, within _ _ _ c.place_of.ensures)
 
-add-end : tie.Need-overflow-add-end
-add-end c = omega (arith, words_room _ c.before.before.before.before.requires.store, c.before.before.held_of.ensures, within _ _ _ c.place_of.ensures)
+add-end : tie.Need-overflow_add-end
+add-end c = omega (arith, words_room _ c.requires.store, c.held_of-n.ensures, within _ _ _ c.place_of.ensures)
 
-add-end-2 : tie.Need-overflow-add-end-2
-add-end-2 c = omega (arith, words_room _ c.before.before.before.before.requires.store, c.before.before.held_of.ensures, within _ _ _ c.place_of.ensures)
+add-end-2 : tie.Need-overflow_add-end-2
+add-end-2 c = omega (arith, words_room _ c.requires.store, c.held_of-n.ensures, within _ _ _ c.place_of.ensures)
 
-mul-move-up : tie.Need-overflow-mul-move-up
-mul-move-up c = omega (arith, words_room _ c.before.before.before.before.requires.store, c.before.before.held_of.ensures, within _ _ _ c.place_of.ensures)
+mul-move-up : tie.Need-offset_bounds-store-start
+mul-move-up c = omega (arith, words_room _ c.requires.store, c.held_of-n.ensures, within _ _ _ c.place_of.ensures)
 
-sub-move-up : tie.Need-overflow-sub-move-up
-sub-move-up c = omega (arith, words_room _ c.before.before.before.before.requires.store, c.before.before.held_of.ensures, within _ _ _ c.place_of.ensures)
+sub-move-up : tie.Need-slice_bounds-move_up-count
+sub-move-up c = omega (arith, words_room _ c.requires.store, c.held_of-n.ensures, within _ _ _ c.place_of.ensures)
 
-part-move-up-start : tie.Need-slice-bounds-move-up-start
-part-move-up-start c = omega (arith, words_room _ c.before.before.before.before.requires.store, c.before.before.held_of.ensures, within _ _ _ c.place_of.ensures)
+part-move-up-start : tie.Need-slice_bounds-move_up-start
+part-move-up-start c = omega (arith, words_room _ c.requires.store, c.held_of-n.ensures, within _ _ _ c.place_of.ensures)
 
-part-move-up-end : tie.Need-slice-bounds-move-up-end
-part-move-up-end c = omega (arith, words_room _ c.before.before.before.before.requires.store, c.before.before.held_of.ensures, within _ _ _ c.place_of.ensures)
+part-move-up-end : tie.Need-slice_bounds-move_up-end
+part-move-up-end c = omega (arith, words_room _ c.requires.store, c.held_of-n.ensures, within _ _ _ c.place_of.ensures)
 
-move-up-requires : tie.Need-move-up-requires
+move-up-requires : tie.Need-move_up-requires
 move-up-requires c κs =
-    let n = c.before.before.before in
-    let a = n.before.before in
-    simp (length-take, length-drop) (omega (arith, words_room _ a.requires.store, n.held_of.ensures, within _ _ _ c.before.place_of.ensures))
+    let n = c in
+    let a = n in
+    simp (length-take, length-drop) (omega (arith, words_room _ a.requires.store, n.held_of-n.ensures, within _ _ _ c.place_of.ensures))
 
-write-record-requires : tie.Need-write-record-requires
+write-record-requires : tie.Need-write_record-requires
 write-record-requires c κs =
-    let m = c.before.before in
-    let p = m.before.before in
-    let n = p.before.before in
-    let a = n.before.before in
+    let m = c in
+    let p = m in
+    let n = p in
+    let a = n in
     let k = 7 * p.place_of.result + 7 in
-    let long = same_len_mid {X = ℤ} k (7 * n.held_of.result + 7 + 7 - k) a.args.store.now m.move_up.new.0 m.move_up.auto.0 in
-    omega (arith, long, words_room _ a.requires.store, n.held_of.ensures, within _ _ _ p.place_of.ensures)
+    let long = same_len_mid {X = ℤ} k (7 * n.held_of-n.result + 7 + 7 - k) a.args.store.now m.move_up.new.words m.move_up.auto.words in
+    omega (arith, long, words_room _ a.requires.store, n.held_of-n.ensures, within _ _ _ p.place_of.ensures)
 
-add-set-held : tie.Need-overflow-add-set-held
+add-set-held : tie.Need-overflow_add-n
 add-set-held c =
-    let o = c.before.before.before.before in
-    let e = o.before.before.before.before in
-    let n = e.before in
-    let a = n.before.before in
-    omega (arith, words_room _ a.requires.store, n.held_of.ensures)
+    let o = c in
+    let e = o in
+    let n = e in
+    let a = n in
+    omega (arith, words_room _ a.requires.store, n.held_of-n.ensures)
 
-set-held-requires : tie.Need-set-held-requires
+set-held-requires : tie.Need-set_held-requires
 set-held-requires c κs =
     let w = c.before.before in
-    let m = w.before.before.before in
-    let p = m.before.before in
-    let n = p.before.before in
-    let a = n.before.before in
+    let m = w in
+    let p = m in
+    let n = p in
+    let a = n in
     let k = 7 * p.place_of.result + 7 in
-    let long = same_len_mid {X = ℤ} k (7 * n.held_of.result + 7 + 7 - k) a.args.store.now m.move_up.new.0 m.move_up.auto.0 in
+    let long = same_len_mid {X = ℤ} k (7 * n.held_of-n.result + 7 + 7 - k) a.args.store.now m.move_up.new.words m.move_up.auto.words in
     let room = words_room _ a.requires.store in
-    record { count_word = omega (arith, w.write-record.auto.0, long, room); few = omega (arith, room, n.held_of.ensures, a.requires.room) }
+    record { count_word = omega (arith, w.write_record.auto.words, long, room); few = omega (arith, room, n.held_of-n.ensures, a.requires.room) }
 
-same_length : tie.Need-same-length
+same_length : tie.Need-shape_of-store
 same_length c = search rules
 
 returns : tie.Need-returns

@@ -15,10 +15,10 @@ use Rattle.store.proofs.opening.open_at.Tie as tie
 clear-requires : tie.Need-clear-requires
 clear-requires c κs = search rules
 
-slice-set-from-t : tie.Need-slice-set-from-t
+slice-set-from-t : tie.Need-bounds-store-0
 slice-set-from-t c = search rules
 
-same_length : tie.Need-same-length
+same_length : tie.Need-shape_of-store
 same_length c = search rules
 
 blank : (w : List ℤ) (n : ℕ) (t : ℤ) → n ≡ store_words → w ≡ replicate n (pos 0) → set w 0 t ≡ store_of t []
@@ -27,9 +27,9 @@ blank w n t e h = rw (h, e)
 
 returns : tie.Need-returns
 returns c =
-    let a = c.before.before.before in
+    let a = c in
     simp (held w32 a.args.t (search rules))
-    (blank c.before.clear.new.0 (length a.args.store.now) a.args.t a.requires c.before.clear.ensures)
+    (blank c.clear.new.words (length a.args.store.now) a.args.t a.requires c.clear.ensures)
 
-pub open-at-spec : {M : Type 1} → statement M
-open-at-spec = tie.close (tie.spec clear-requires slice-set-from-t same_length returns)
+pub open_at_spec : {M : Type 1} → statement M
+open_at_spec = tie.close (tie.spec clear-requires slice-set-from-t same_length returns)

@@ -8,32 +8,32 @@ use Rattle.store.proofs.RemovingLaws.{remove_found, remove_none}
 use Rattle.store.proofs.removing.remove.Statement.{statement}
 use Rattle.store.proofs.removing.remove.Tie as tie
 
-index-of-requires : tie.Need-index-of-requires
-index-of-requires c κs = omega (arith, store_room _ c.before.requires)
+index-of-requires : tie.Need-index_of-i-requires
+index-of-requires c κs = omega (arith, store_room _ c.requires)
 
-held-of-requires : tie.Need-held-of-requires
-held-of-requires c κs = omega (arith, store_room _ c.before.before.before.requires)
+held-of-requires : tie.Need-held_of-requires
+held-of-requires c κs = omega (arith, store_room _ c.requires)
 
-same_length : tie.Need-same-length
+same_length : tie.Need-shape_of-store-then-held_of-i
 same_length c = search rules
 
-returns : tie.Need-returns
+returns : tie.Need-returns-then-held_of-i
 returns c = search (remove_none, index_read, has_words)
 
-remove-at-requires : tie.Need-remove-at-requires
+remove-at-requires : tie.Need-remove_at-requires
 remove-at-requires c κs =
     let n = c.before.before in
-    let a = n.before.before.before.before in
+    let a = n in
     record { store = has_words _ a.requires; within = omega (arith, n.held_of.ensures) }
 
-same-length-2 : tie.Need-same-length-2
+same-length-2 : tie.Need-shape_of-store
 same-length-2 c = search rules
 
-returns-2 : tie.Need-returns-2
+returns-2 : tie.Need-returns
 returns-2 c = search (remove_found, index_read)
 
-pub remove-spec : {M : Type 1} → statement M
-remove-spec =
+pub remove_spec : {M : Type 1} → statement M
+remove_spec =
     tie.close
     (tie.spec
     index-of-requires

@@ -12,20 +12,20 @@ use Rattle.store.proofs.SteppingWordsLaws.{from_small, lives_on_is}
 use Rattle.store.proofs.stepping.lives_on.Statement.{statement}
 use Rattle.store.proofs.stepping.lives_on.Tie as tie
 
-phase-of-key-requires : tie.Need-phase-of-key-requires
+phase-of-key-requires : tie.Need-phase_of_key-requires
 phase-of-key-requires c κs = search rules
 
-is-live-requires : tie.Need-is-live-requires
+is-live-requires : tie.Need-is_live-requires
 is-live-requires c κs =
-    let a = c.before.before in
+    let a = c in
     omega (arith, from_small a.args.step a.requires, phase_of_key-small a.args.step.from (back w32 a.args.r.key))
 
 returns : tie.Need-returns
 returns c =
-    let a = c.before.before.before in
+    let a = c in
     c.is_live.ensures
-    ∙ ap (is_live a.args.step.to) (tested₁ w32 (phase_of_key a.args.step.from) c.before.phase-of-key.result a.args.r.key c.before.phase-of-key.ensures (search rules))
+    ∙ ap (is_live a.args.step.to) (tested₁ w32 (phase_of_key a.args.step.from) c.phase_of_key.result a.args.r.key c.phase_of_key.ensures (search rules))
     ∙ lives_on_is a.args.step a.requires a.args.r
 
-pub lives-on-spec : {M : Type 1} → statement M
-lives-on-spec = tie.close (tie.spec phase-of-key-requires is-live-requires returns)
+pub lives_on_spec : {M : Type 1} → statement M
+lives_on_spec = tie.close (tie.spec phase-of-key-requires is-live-requires returns)

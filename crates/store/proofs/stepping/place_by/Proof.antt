@@ -7,11 +7,11 @@ use Rattle.ints.proofs.Machine.{held}
 use Rattle.store.proofs.stepping.place_by.Statement.{statement}
 use Rattle.store.proofs.stepping.place_by.Tie as tie
 
-key-in-requires : tie.Need-key-in-requires
+key-in-requires : tie.Need-key_in-requires
 key-in-requires c κs = search rules
 
 returns : tie.Need-returns
-returns c = let e = held w32 c.key_in.result (search rules) ∙ c.key_in.ensures in λ i. record { key = e i; report = c.before.args.r }
+returns c = let e = held w32 c.key_in.result (search rules) ∙ c.key_in.ensures in λ i. record { key = e i; report = c.args.r }
 
-pub place-by-spec : {M : Type 1} → statement M
-place-by-spec = tie.close (tie.spec key-in-requires returns)
+pub place_by_spec : {M : Type 1} → statement M
+place_by_spec = tie.close (tie.spec key-in-requires returns)

@@ -7,31 +7,31 @@ use Rattle.store.proofs.WritingKeptLaws.{kept_alone}
 use Rattle.store.proofs.stepping.take_dead.Statement.{statement}
 use Rattle.store.proofs.stepping.take_dead.Tie as tie
 
-held-of-requires : tie.Need-held-of-requires
-held-of-requires c κs = omega (arith, store_room _ c.before.requires.store)
+held-of-requires : tie.Need-held_of-n-requires
+held-of-requires c κs = omega (arith, store_room _ c.requires.store)
 
-keep-live-requires : tie.Need-keep-live-requires
+keep-live-requires : tie.Need-keep_live-k-requires
 keep-live-requires c κs = search rules
 
-keep-first-requires : tie.Need-keep-first-requires
+keep-first-requires : tie.Need-keep_first-requires
 keep-first-requires c κs =
     let g = c.before.before.before in
     let n = g.before.before.before in
-    let a = n.before.before in
+    let a = n in
     let room = store_room _ a.requires.store in
     record {
-      within = omega (arith, g.keep_live.ensures.0.within, n.held_of.ensures);
-      few = omega (arith, room, n.held_of.ensures);
-      long = omega (arith, room, n.held_of.ensures, g.keep_live.auto.0);
+      within = omega (arith, g.keep_live-k.ensures.0.within, n.held_of-n.ensures);
+      few = omega (arith, room, n.held_of-n.ensures);
+      long = omega (arith, room, n.held_of-n.ensures, g.keep_live-k.auto.store);
     }
 
-sub-result : tie.Need-overflow-sub-result
+sub-result : tie.Need-overflow_sub-result
 sub-result c = search rules
 
-same_length : tie.Need-same-length
+same_length : tie.Need-shape_of-store
 same_length c = search rules
 
-same-length-2 : tie.Need-same-length-2
+same-length-2 : tie.Need-shape_of-dead
 same-length-2 c = search rules
 
 returns : tie.Need-returns
@@ -39,13 +39,13 @@ returns c =
     let h = c.before in
     let g = h.before.before.before.before in
     let n = g.before.before.before in
-    let a = n.before.before in (
-      kept_alone _ _ _ _ _ _ a.requires.store n.held_of.ensures g.keep_live.ensures.0 h.keep-first.ensures,
-      rw n.held_of.ensures g.keep_live.ensures.1,
+    let a = n in (
+      kept_alone _ _ _ _ _ _ a.requires.store n.held_of-n.ensures g.keep_live-k.ensures.0 h.keep_first.ensures,
+      rw n.held_of-n.ensures g.keep_live-k.ensures.1,
     )
 
-pub take-dead-spec : {M : Type 1} → statement M
-take-dead-spec =
+pub take_dead_spec : {M : Type 1} → statement M
+take_dead_spec =
     tie.close
     (tie.spec
     held-of-requires

@@ -10,17 +10,17 @@ use Rattle.ints.proofs.Machine.{held}
 use Rattle.store.proofs.writing.set_held.Statement.{statement}
 use Rattle.store.proofs.writing.set_held.Tie as tie
 
-cast-w : tie.Need-overflow-cast-w
+cast-w : tie.Need-overflow_cast-w
 cast-w c = search rules
 
-slice-set-from-w : tie.Need-slice-set-from-w
+slice-set-from-w : tie.Need-bounds-store-1
 slice-set-from-w c = search rules
 
-same_length : tie.Need-same-length
+same_length : tie.Need-shape_of-store
 same_length c = search rules
 
 returns : tie.Need-returns
 returns c = ap (λ z. set c.args.store.now 1 z) (held w32 (pos c.args.n) (omega arith))
 
-pub set-held-spec : {M : Type 1} → statement M
-set-held-spec = tie.close (tie.spec cast-w slice-set-from-w same_length returns)
+pub set_held_spec : {M : Type 1} → statement M
+set_held_spec = tie.close (tie.spec cast-w slice-set-from-w same_length returns)

@@ -7,14 +7,14 @@ use Rattle.store.proofs.WritingLaws.{now_set}
 use Rattle.store.proofs.writing.set_now.Statement.{statement}
 use Rattle.store.proofs.writing.set_now.Tie as tie
 
-slice-set-from-t : tie.Need-slice-set-from-t
+slice-set-from-t : tie.Need-bounds-store-0
 slice-set-from-t c = omega (arith, store_room _ c.requires)
 
-same_length : tie.Need-same-length
+same_length : tie.Need-shape_of-store
 same_length c = search rules
 
 returns : tie.Need-returns
 returns c = search now_set
 
-pub set-now-spec : {M : Type 1} → statement M
-set-now-spec = tie.close (tie.spec slice-set-from-t same_length returns)
+pub set_now_spec : {M : Type 1} → statement M
+set_now_spec = tie.close (tie.spec slice-set-from-t same_length returns)

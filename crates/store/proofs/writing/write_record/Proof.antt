@@ -7,74 +7,74 @@ use Rattle.store.proofs.WritingLaws.{write_words}
 use Rattle.store.proofs.writing.write_record.Statement.{statement}
 use Rattle.store.proofs.writing.write_record.Tie as tie
 
-mul-key : tie.Need-overflow-mul-key
+mul-key : tie.Need-offset_bounds-words-k
 mul-key c = search rules
 
-slice-set-from-key : tie.Need-slice-set-from-key
+slice-set-from-key : tie.Need-bounds-words-k
 slice-set-from-key c = search rules
 
-add-id : tie.Need-overflow-add-id
+add-id : tie.Need-overflow_add-id
 add-id c = search rules
 
-mul-id : tie.Need-overflow-mul-id
+mul-id : tie.Need-offset_bounds-words-k-2
 mul-id c = search rules
 
-slice-set-from-id : tie.Need-slice-set-from-id
+slice-set-from-id : tie.Need-bounds-words-k-2
 slice-set-from-id c = simp length-set (omega arith)
 
-add-t : tie.Need-overflow-add-t
+add-t : tie.Need-overflow_add-t
 add-t c = search rules
 
-mul-t : tie.Need-overflow-mul-t
+mul-t : tie.Need-offset_bounds-words-k-3
 mul-t c = search rules
 
-slice-set-from-t : tie.Need-slice-set-from-t
+slice-set-from-t : tie.Need-bounds-words-k-3
 slice-set-from-t c = simp length-set (omega arith)
 
-add-x : tie.Need-overflow-add-x
+add-x : tie.Need-overflow_add-x
 add-x c = search rules
 
-mul-x : tie.Need-overflow-mul-x
+mul-x : tie.Need-offset_bounds-words-k-4
 mul-x c = search rules
 
-slice-set-from-x : tie.Need-slice-set-from-x
+slice-set-from-x : tie.Need-bounds-words-k-4
 slice-set-from-x c = simp length-set (omega arith)
 
-add-y : tie.Need-overflow-add-y
+add-y : tie.Need-overflow_add-y
 add-y c = search rules
 
-mul-y : tie.Need-overflow-mul-y
+mul-y : tie.Need-offset_bounds-words-k-5
 mul-y c = search rules
 
-slice-set-from-y : tie.Need-slice-set-from-y
+slice-set-from-y : tie.Need-bounds-words-k-5
 slice-set-from-y c = simp length-set (omega arith)
 
-add-vx : tie.Need-overflow-add-vx
+add-vx : tie.Need-overflow_add-vx
 add-vx c = search rules
 
-mul-vx : tie.Need-overflow-mul-vx
+mul-vx : tie.Need-offset_bounds-words-k-6
 mul-vx c = search rules
 
-slice-set-from-vx : tie.Need-slice-set-from-vx
+slice-set-from-vx : tie.Need-bounds-words-k-6
 slice-set-from-vx c = simp length-set (omega arith)
 
-add-vy : tie.Need-overflow-add-vy
+add-vy : tie.Need-overflow_add-vy
 add-vy c = search rules
 
-mul-vy : tie.Need-overflow-mul-vy
+mul-vy : tie.Need-offset_bounds-words-k-7
 mul-vy c = search rules
 
-slice-set-from-vy : tie.Need-slice-set-from-vy
+slice-set-from-vy : tie.Need-bounds-words-k-7
 slice-set-from-vy c = simp length-set (omega arith)
 
-same_length : tie.Need-same-length
+same_length : tie.Need-shape_of-words
 same_length c = simp length-set (omega arith)
 
 returns : tie.Need-returns
 returns c = search write_words
 
-pub write-record-spec : {M : Type 1} → statement M
-write-record-spec =
+pub write_record_spec : {M : Type 1} → statement M
+write_record_spec =
     tie.close
     (tie.spec
     mul-key
