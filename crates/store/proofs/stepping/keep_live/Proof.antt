@@ -86,7 +86,7 @@ mul-write-record-2 c = omega (arith, (looping c.before.before).loop-i.invariant.
 
 place-by-requires : tie.Need-place_by-requires invariant-loop decreases-loop
 place-by-requires c κs =
-    let s = c.before.before.before in
+    let s = c.before.before.before.before in
     let l = looping s in
     let a = start l.before in
     let is-ranged = now_ranged _ _ _ _ _ _ l.loop-i.invariant.keeping l.loop-i-test.true _ s.read_from-r.ensures in
@@ -98,7 +98,7 @@ place-by-requires c κs =
 
 write-record-requires-2 : tie.Need-write_record-requires-else-lives_on invariant-loop decreases-loop
 write-record-requires-2 c κs =
-    let l = looping c.before.before.before.before in
+    let l = looping c.before.before.before.before.before in
     omega (arith, l.loop-i.invariant.keeping, l.loop-i-test.true)
 
 add-i-2 : tie.Need-overflow_add-i-else-lives_on invariant-loop decreases-loop
@@ -111,7 +111,7 @@ loop-again-2 : tie.Need-loop-i-preserved invariant-loop decreases-loop
 loop-again-2 c =
     let w = c.before in
     let p = w.before in
-    let else = p.before.before.before in
+    let else = p.before.before.before.before in
     let s = else.before in
     let l = looping s in
     let a = start l.before in
