@@ -187,7 +187,6 @@ module _ (w : Words) (ask : Ask) where
     rounds_are = let h = x.rounds_are in omega arith;
     ids_are = x.ids_are ∙ sym (append-nil (ids_of (listed_of w ask p)));
     inside = let h = x.few_listed in omega arith;
-    few_listed = let h = x.few_listed in omega arith;
   })
 
   pub over_two :
@@ -208,7 +207,6 @@ module _ (w : Words) (ask : Ask) where
         let second = ids_of (listed_of w ask p') in
         y.ids_are ∙ ap (λ (l : List ℕ). l ++ second) x.ids_are ∙ ap (λ (l : List ℕ). ids_of (listed_of w ask p) ++ l) (sym (append-nil second));
     inside = let i = x.few_listed in let j = y.few_listed in omega arith;
-    few_listed = let i = x.few_listed in let j = y.few_listed in omega arith;
   })
 
   pub over_three :
@@ -235,7 +233,6 @@ module _ (w : Words) (ask : Ask) where
         ∙ append_assoc first second third
         ∙ ap (λ (l : List ℕ). first ++ (second ++ l)) (sym (append-nil third));
     inside = let i = x.few_listed in let j = y.few_listed in let k = z.few_listed in omega arith;
-    few_listed = let i = x.few_listed in let j = y.few_listed in let k = z.few_listed in omega arith;
   })
 
 pub phases_one : (c : ℕ) → c < 1 → live_phases c ≡ c ∷ []
@@ -302,11 +299,7 @@ module _ (w : Words) (ask : Ask) (can : CanAsk w ask) (list ids : List ℕ) (c :
       ap length e.0 ∙ (sym e.1 ∙ sym needed)
 
   pub enough : c.read.listed ≤ length list → CanList front list
-  enough h = record {
-    as_many = ap length front_found ∙ count_is ∙ sym front_long;
-    few = omega (arith, front_long, o.few_listed);
-    room = omega (arith, front_long);
-  }
+  enough h = record { as_many = ap length front_found ∙ count_is ∙ sym front_long; room = omega (arith, front_long) }
 
   abbrev verdict : Verdict
   verdict = first_to_fail (room_checks (length list) (ids_needed w ask))

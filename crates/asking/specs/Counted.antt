@@ -123,4 +123,3 @@ module _ (w : Words) (ask : Ask) where
     pub rounds_are : c.rounds ≡ summed (λ p. (choice_of w ask p).rounds) ps
     pub ids_are : take c.read.listed ids ≡ ids_listed ps
     pub inside : c.read.listed ≤ length ids
-    pub few_listed : c.read.listed ≤ 3 * capacity

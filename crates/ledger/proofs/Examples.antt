@@ -1,6 +1,5 @@
--- P1 to P12, and what pins the reference time, hold of the definitions jointly: one tabled fact, which antt computes, P1 to P10 of it in grid. The listing of
--- document 01 gives the document's answers, and so do a worked list with each refusal from 3 on, and a full ledger. Each number from 3 to 8, and 10, is given
--- by a call.
+-- P1 to P12, and what pins the reference time, hold of the definitions jointly: one tabled fact, which antt computes. The listing of document 01 gives the document's answers, and
+-- so do a worked list with each refusal from 3 on, and a full ledger. Each number from 3 to 8, and 10, is given by a call.
 -- Assumes nothing.
 use mathlib.Core.Path.{◌≡◌, refl}
 use mathlib.Core.List.{[], ◌∷◌}
@@ -8,12 +7,10 @@ use lib.IntN.{pos}
 use Rattle.ints.specs.Whole.{min_z, max_z, eq_z}
 use Rattle.ints.specs.Lists.{passing, some}
 use Rattle.ints.specs.Examples.{AllAsSaid}
-use Rattle.ints.proofs.Examples.{both_as_said}
 use Rattle.grid.specs.Places.{column_of, cell_span}
 use Rattle.grid.specs.Curve.{number_at}
 use Rattle.grid.specs.Reports.{in_range, x_at, y_at, in_rect, inside_at, is_silent, is_listed}
 use Rattle.grid.specs.Examples as Grid
-use Rattle.grid.proofs.Examples.{all_as_said as grid-as-said}
 use Rattle.rows.specs.Row.{joined, same_row, is_empty, bounds_of}
 use Rattle.rows.specs.Phases.{phase_of, reference_time, is_live, live_phases}
 use Rattle.methods.specs.Reach.{expanded_range, expanded_rect, block_of, cells_of_row, cells_of_rows, cells_of, moved_span, meets, moved_cell_meets}
@@ -23,21 +20,17 @@ use Rattle.ledger.specs.Refusals.{first_to_fail, is_rectangle}
 use Rattle.ledger.specs.Machine.{opened, moved_held, new_placements, live_placements, keeping, moved_on, stepped, without, with_report}
 use Rattle.ledger.specs.Machine.{without_id, speeds_placed, rows_in, useful_cells, put_in_order, ids_in_order, summed}
 use Rattle.ledger.specs.Calls.{answer_to, changed_by, ids_of, next, reply_to, replies, after}
-use Rattle.ledger.specs.Examples.{examples, ledger_examples, ledger_p11, ledger_p12, phases_held, columns_placed}
-use Rattle.ledger.specs.Examples.{listing, listing_says, sent, answers, refused, refused_says, crowd, ledger_of_one, numbers, add}
+use Rattle.ledger.specs.Examples.{examples, ledger_p11, ledger_p12, phases_held, columns_placed, listing, listing_says, sent, answers, refused, refused_says, crowd, ledger_of_one, numbers, add}
 use Rattle.ledger.proofs.ExamplesCrowdLaws.{crowd_full, crowd_room}
 use Rattle.ledger.specs.declared.Answer.TheVariants.{Accepted, Refused}
 use Rattle.ledger.specs.declared.Refusal.TheVariants.{Full}
 
-ledger_as_said : AllAsSaid ledger_examples
-unfolding ledger_examples ledger_p11 ledger_p12 phases_held columns_placed column_of cell_span number_at min_z max_z eq_z passing some joined same_row is_empty bounds_of expanded_range
+pub all_as_said : AllAsSaid examples
+unfolding examples Grid.examples ledger_p11 ledger_p12 phases_held columns_placed column_of cell_span number_at min_z max_z eq_z passing some joined same_row is_empty bounds_of expanded_range
     expanded_rect block_of cells_of_row cells_of_rows cells_of moved_span meets moved_cell_meets bounds_in expanded_block iterated choice in_range x_at y_at in_rect inside_at is_silent is_listed phase_of
     reference_time is_live live_phases first_to_fail is_rectangle moved_held new_placements live_placements keeping moved_on stepped without with_report without_id speeds_placed rows_in
     useful_cells put_in_order ids_in_order summed answer_to changed_by ids_of next reply_to replies after
-ledger_as_said = refl
-
-pub all_as_said : AllAsSaid examples
-all_as_said = both_as_said Grid.examples ledger_examples grid-as-said ledger_as_said
+all_as_said = refl
 
 pub listing_as_said : replies (opened (pos 0)) listing ≡ listing_says
 unfolding listing listing_says column_of cell_span number_at min_z max_z eq_z passing some joined same_row is_empty bounds_of expanded_range expanded_rect block_of cells_of_row cells_of_rows cells_of

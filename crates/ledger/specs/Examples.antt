@@ -81,10 +81,10 @@ first (n ∷ ns) = n
 abbrev pub column_of_one : ℕ → ℤ → ℕ
 column_of_one x vx = first (columns_placed (after (opened (pos 0)) (add (sent 1 0 x 0 vx (pos 0)) ∷ [])).placements)
 
--- P11, P12 and the two floats
-unfoldable pub ledger_examples : List (Example ℕ)
-ledger_examples =
-    record { given = (counts_of (ask_p11 0)).cells; said = 5 }
+unfoldable pub examples : List (Example ℕ)
+examples =
+    Grid.examples
+    ++ record { given = (counts_of (ask_p11 0)).cells; said = 5 }
     ∷ record { given = (counts_of (ask_p11 1)).cells; said = 1 }
     ∷ record { given = (counts_of (ask_p11 2)).cells; said = 1 }
     ∷ record { given = (counts_of (ask_p11 3)).cells; said = 1 }
@@ -95,10 +95,6 @@ ledger_examples =
     ∷ record { given = column_of_one 172144 (pos 50); said = 1 }
     ∷ record { given = column_of_one 352144 (negsuc 49); said = 1 }
     ∷ []
-
--- P1 to P12
-abbrev pub examples : List (Example ℕ)
-examples = Grid.examples ++ ledger_examples
 
 -- the listing after its open at 0, each ask lent a list of 1,024 ids
 unfoldable pub listing : List Fed

@@ -19,64 +19,64 @@ use Rattle.retiring.proofs.RetiringLaws.{time_word, none_has, one_has}
 use Rattle.retiring.proofs.has_left.Statement.{statement}
 use Rattle.retiring.proofs.has_left.Tie as tie
 
-index-of-requires : tie.Need-index-of-requires
+index-of-requires : tie.Need-index_of-i-requires
 index-of-requires c κs = omega (arith, store_room _ c.requires.store)
 
-held-of-requires : tie.Need-held-of-requires
-held-of-requires c κs = omega (arith, store_room _ c.before.requires.store)
+held-of-requires : tie.Need-held_of-requires
+held-of-requires c κs = omega (arith, store_room _ c.requires.store)
 
 -- where the record of the id stands
-index_is : (c : tie.After-index-of) → c.index_of.result ≡ index_of c.before.args.id (records_of c.before.args.store.now)
+index_is : (c : tie.After-index_of-i) → c.index_of-i.result ≡ index_of c.args.id (records_of c.args.store.now)
 index_is c =
-    let a = c.before.args in
-    c.index_of.ensures ∙ ap (λ (id : ℤ). index_of id (records_of a.store.now)) (held w32 a.id (search rules))
+    let a = c.args in
+    c.index_of-i.ensures ∙ ap (λ (id : ℤ). index_of id (records_of a.store.now)) (held w32 a.id (search rules))
 
-returns : tie.Need-returns
+returns : tie.Need-returns-then-held_of-i
 returns c =
     let h = c.before in
     let i = h.before in
-    let a = i.before.args in
+    let a = i.args in
     let s = a.store.now in
-    none_has (stays_at a.time) a.id (records_of s) (omega (arith, index_is i, h.held_of.ensures, held_records s, c.if1.true))
+    none_has (stays_at a.time) a.id (records_of s) (omega (arith, index_is i, h.held_of.ensures, held_records s, c.if-held_of-i.true))
 
 -- its words are in the store
-inside : (c : tie.Else1) → 7 * c.before.before.index_of.result + 9 < 7175
+inside : (c : tie.Else-held_of-i) → 7 * c.index_of-i.result + 9 < 7175
 inside c =
-    let h = c.before in
-    omega (arith, store_room _ h.before.before.requires.store, h.held_of.ensures, c.if1.false)
+    let h = c in
+    omega (arith, store_room _ h.requires.store, h.held_of.ensures, c.if-held_of-i.false)
 
-mul-stays : tie.Need-overflow-mul-stays
+mul-stays : tie.Need-overflow_mul-i
 mul-stays c = omega (arith, inside c)
 
-add-stays : tie.Need-overflow-add-stays
+add-stays : tie.Need-overflow_add-i
 add-stays c = omega (arith, inside c)
 
-mul-stays-2 : tie.Need-overflow-mul-stays-2
+mul-stays-2 : tie.Need-offset_bounds-store-i
 mul-stays-2 c = omega (arith, inside c)
 
-shared-slice-copy-out-stays : tie.Need-shared-slice-copy-out-stays
-shared-slice-copy-out-stays c = let a = c.before.before.before in omega (arith, inside c, store_room _ a.requires.store)
+shared-slice-copy-out-stays : tie.Need-bounds-store-i
+shared-slice-copy-out-stays c = let a = c in omega (arith, inside c, store_room _ a.requires.store)
 
 stays-requires : tie.Need-stays-requires
 stays-requires c κs = search rules
 
-returns-2 : tie.Need-returns-2
+returns-2 : tie.Need-returns
 returns-2 c =
     let e = c.before.before in
     let h = e.before in
     let i = h.before in
-    let a = i.before in
+    let a = i in
     let s = a.args.store.now in
-    let n = i.index_of.result in
+    let n = i.index_of-i.result in
     let judge : ℤ → ℤ → Bool = λ time t. not (is_silent time t) in
     let here : drop (index_of a.args.id (records_of s)) (records_of s) ≡ record_from s (7 * n + 7) ∷ drop (n + 1) (records_of s) =
-    ap (λ (j : ℕ). drop j (records_of s)) (sym (index_is i)) ∙ drop-record s n (omega (arith, h.held_of.ensures, e.if1.false)) in
-    tested₂ w32 judge c.stays.result a.args.time (get_or s (7 * n + 9) (pos 0)) c.stays.ensures (search rules) c.before.stays-arg.given
+    ap (λ (j : ℕ). drop j (records_of s)) (sym (index_is i)) ∙ drop-record s n (omega (arith, h.held_of.ensures, e.if-held_of-i.false)) in
+    tested₂ w32 judge c.stays.result a.args.time (get_or s (7 * n + 9) (pos 0)) c.stays.ensures (search rules) c.stays-arg-1.given
     ∙ ap (judge a.args.time) (sym (time_word s n))
     ∙ one_has (stays_at a.args.time) a.args.id (record_from s (7 * n + 7)) (records_of s) (drop (n + 1) (records_of s)) here a.requires.distinct
 
-pub has-left-spec : {M : Type 1} → statement M
-has-left-spec =
+pub has_left_spec : {M : Type 1} → statement M
+has_left_spec =
     tie.close
     (tie.spec
     index-of-requires

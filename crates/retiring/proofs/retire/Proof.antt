@@ -14,50 +14,50 @@ use Rattle.retiring.proofs.RetiringLaws.{none_goes}
 use Rattle.retiring.proofs.retire.Statement.{statement}
 use Rattle.retiring.proofs.retire.Tie as tie
 
-held-of-requires : tie.Need-held-of-requires
-held-of-requires c κs = omega (arith, store_room _ c.before.requires.store)
+held-of-requires : tie.Need-held_of-n-requires
+held-of-requires c κs = omega (arith, store_room _ c.requires.store)
 
-same_length : tie.Need-same-length
+same_length : tie.Need-shape_of-store-then-left-n
 same_length c = search rules
 
-returns : tie.Need-returns
+returns : tie.Need-returns-then-left-n
 returns c =
-    let h = c.before in
-    let a = h.before.before in
+    let h = c in
+    let a = h in
     let s = a.args.store.now in
     let q = a.requires.store in
-    let all = sym a.requires.left_is ∙ c.if1.true ∙ h.held_of.ensures ∙ sym (held_records s) in
+    let all = sym a.requires.left_is ∙ c.if-left-n.true ∙ h.held_of-n.ensures ∙ sym (held_records s) in
     q.words ∙ ap (store_of (now_of s)) (sym (none_goes (stays_at a.args.time) (records_of s) all))
 
-keep-staying-requires : tie.Need-keep-staying-requires
+keep-staying-requires : tie.Need-keep_staying-k-requires
 keep-staying-requires c κs = search rules
 
-keep-first-requires : tie.Need-keep-first-requires
+keep-first-requires : tie.Need-keep_first-requires
 keep-first-requires c κs =
-    let g = c.before.before in
-    let h = g.before.before.before in
-    let a = h.before.before in
+    let g = c in
+    let h = g in
+    let a = h in
     let room = store_room _ a.requires.store in
     record {
-      within = omega (arith, g.keep-staying.ensures.within, h.held_of.ensures);
-      few = omega (arith, room, h.held_of.ensures);
-      long = omega (arith, room, h.held_of.ensures, g.keep-staying.auto.0);
+      within = omega (arith, g.keep_staying-k.ensures.within, h.held_of-n.ensures);
+      few = omega (arith, room, h.held_of-n.ensures);
+      long = omega (arith, room, h.held_of-n.ensures, g.keep_staying-k.auto.store);
     }
 
-same-length-2 : tie.Need-same-length-2
+same-length-2 : tie.Need-shape_of-store
 same-length-2 c = search rules
 
-returns-2 : tie.Need-returns-2
+returns-2 : tie.Need-returns
 returns-2 c =
-    let l = c.before in
-    let g = l.before.before.before in
-    let h = g.before.before.before in
-    let a = h.before.before in
+    let l = c in
+    let g = l in
+    let h = g in
+    let a = h in
     rw (held w32 a.args.time (search rules)) at
-    (kept_alone _ _ _ _ _ _ a.requires.store h.held_of.ensures g.keep-staying.ensures l.keep-first.ensures)
+    (kept_alone _ _ _ _ _ _ a.requires.store h.held_of-n.ensures g.keep_staying-k.ensures l.keep_first.ensures)
 
-pub retire-spec : {M : Type 1} → statement M
-retire-spec =
+pub retire_spec : {M : Type 1} → statement M
+retire_spec =
     tie.close
     (tie.spec
     held-of-requires

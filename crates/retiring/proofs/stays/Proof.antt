@@ -26,31 +26,31 @@ below a b = go (le_z b a) refl
 abbrev same : ℤ → ℤ
 same z = z
 
-wide-signed-requires : tie.Need-wide-signed-requires
+wide-signed-requires : tie.Need-wide_signed-requires
 wide-signed-requires c κs = search rules
 
-wide-signed-requires-2 : tie.Need-wide-signed-requires-2
+wide-signed-requires-2 : tie.Need-wide_signed-requires-2
 wide-signed-requires-2 c κs = search rules
 
-module _ (c : tie.After-wide-signed2) where
-  time_is : back w64 c.before.wide_signed.result ≡ c.before.before.args.time
+module _ (c : tie.After-wide_signed-2) where
+  time_is : back w64 c.wide_signed.result ≡ c.args.time
   time_is = search (called₁ w32 w64 same)
 
-  t-is : back w64 c.wide-signed2.result ≡ c.before.before.args.t
+  t-is : back w64 c.wide_signed-2.result ≡ c.args.t
   t-is = search (called₁ w32 w64 same)
 
-  silent-from : SFits w64 (c.before.before.args.t +ℤ pos 2592000)
+  silent-from : SFits w64 (c.args.t +ℤ pos 2592000)
   silent-from =
-      let a = c.before.before in
+      let a = c in
       let f = of_fits w32 a.args.t a.ranges.t in
       fits (omega (arith, add a.args.t (pos 2592000)))
 
-add-result : tie.Need-overflow-add-result
+add-result : tie.Need-overflow_add-result
 add-result c = simp (t-is c) (silent-from c)
 
 returns : tie.Need-returns
 unfolding is_silent
-returns c = simp (time_is c, t-is c, to_z-of_z (silent-from c)) (below c.before.before.args.time (c.before.before.args.t +ℤ pos 2592000))
+returns c = simp (time_is c, t-is c, to_z-of_z (silent-from c)) (below c.args.time (c.args.t +ℤ pos 2592000))
 
-pub stays-spec : {M : Type 1} → statement M
-stays-spec = tie.close (tie.spec wide-signed-requires wide-signed-requires-2 add-result returns)
+pub stays_spec : {M : Type 1} → statement M
+stays_spec = tie.close (tie.spec wide-signed-requires wide-signed-requires-2 add-result returns)

@@ -18,15 +18,15 @@ use Rattle.words.proofs.WordsMovedLaws.{is_store, time_now, same_step, can_move,
 use Rattle.words.proofs.move_on.Statement.{statement}
 use Rattle.words.proofs.move_on.Tie as tie
 
-now-of-requires : tie.Need-now-of-requires
+now-of-requires : tie.Need-now_of-requires
 now-of-requires c κs =
-    let a = c.before in
+    let a = c in
     omega (arith, store-words_of a.args.store.now (is_store (words a.args.store.now a.args.table.now) a.args.t a.requires))
 
 -- the words at entry, and the two times as they are passed on
-module _ (c : tie.After-now-of) where
+module _ (c : tie.After-now_of) where
   abbrev start : tie.Start
-  start = c.before.before
+  start = c.before
 
   abbrev entry : Words
   entry = words start.args.store.now start.args.table.now
@@ -37,10 +37,10 @@ module _ (c : tie.After-now-of) where
   time_is : back w64 (back w32 start.args.t) ≡ start.args.t
   time_is = wide_back w32 w64 tt start.args.t (search rules)
 
-cast-between : tie.Need-overflow-cast-between
+cast-between : tie.Need-overflow_cast-t
 cast-between c = wide_fits w32 w64 tt (start c).args.t (search rules)
 
-between-requires : tie.Need-between-requires
+between-requires : tie.Need-between-s-requires
 between-requires c κs =
     record {
       is_now = ap is_time (now_is c) ∙ time_now (entry c) (start c).args.t (start c).requires;
@@ -48,21 +48,21 @@ between-requires c κs =
     }
 
 -- the step
-module _ (c : tie.After-between) where
-  abbrev at : tie.After-now-of
+module _ (c : tie.After-between-s) where
+  abbrev at : tie.After-now_of
   at = c.before
 
   abbrev made : Step
-  made = c.between.result
+  made = c.between-s.result
 
   is_step : IsStep made
-  is_step = c.between.ensures.2
+  is_step = c.between-s.ensures.2
 
   from-now : made.now ≡ now_of (start at).args.store.now
-  from-now = c.between.ensures.0 ∙ now_is at
+  from-now = c.between-s.ensures.0 ∙ now_is at
 
   to-time : made.time ≡ (start at).args.t
-  to-time = c.between.ensures.1 ∙ time_is at
+  to-time = c.between-s.ensures.1 ∙ time_is at
 
   from_is : made.from ≡ phase_of (now_of (start at).args.store.now)
   from_is = is_step.from_is ∙ ap phase_of from-now
@@ -70,15 +70,15 @@ module _ (c : tie.After-between) where
   to_is : made.to ≡ phase_of (start at).args.t
   to_is = is_step.to_is ∙ ap phase_of to-time
 
-set-now-requires : tie.Need-set-now-requires
+set-now-requires : tie.Need-set_now-requires
 set-now-requires c κs =
     let b = c.before.before.before in
-    is_store (entry (at b)) (start (at b)).args.t (start (at b)).pre
+    is_store (entry (at b)) (start (at b)).args.t (start (at b)).requires
 
-same_length : tie.Need-same-length
+same_length : tie.Need-shape_of-store-then-s
 same_length c = search rules
 
-returns : tie.Need-returns
+returns : tie.Need-returns-then-s
 returns c =
     let n = c.before in
     let i = n.before.before in
@@ -86,47 +86,47 @@ returns c =
     let a = start (at b) in
     let x = from_is b in
     let y = to_is b in
-    same_step (entry (at b)) a.args.t a.pre (let h = i.if1.true in omega arith) n.set-now.new.0
-    (n.set-now.ensures ∙ ap (λ (t : ℤ). store_of t (records_of a.args.store.now)) (held w32 a.args.t (search rules)))
+    same_step (entry (at b)) a.args.t a.requires (let h = i.if-s.true in omega arith) n.set_now.new.store
+    (n.set_now.ensures ∙ ap (λ (t : ℤ). store_of t (records_of a.args.store.now)) (held w32 a.args.t (search rules)))
 
-step-phase-requires : tie.Need-step-phase-requires
+step-phase-requires : tie.Need-step_phase-requires
 step-phase-requires c κs =
     let b = c.before.before.before.before in
     let a = start (at b) in
-    can_move (entry (at b)) a.args.t a.pre (made b) (from-now b) (to-time b) (is_step b)
+    can_move (entry (at b)) a.args.t a.requires (made b) (from-now b) (to-time b) (is_step b)
 
 -- the words after the records moved
-module _ (m : tie.After-step-phase) where
-  abbrev gone : tie.After-between
+module _ (m : tie.After-step_phase) where
+  abbrev gone : tie.After-between-s
   gone = let else = m.before.before.before in else.before.before
 
-  moved : Moved (start (at gone)).args.store.now (start (at gone)).args.table.now (made gone) m.step-phase.last.0 m.step-phase.last.1.0
-  moved = m.step-phase.ensures
+  moved : Moved (start (at gone)).args.store.now (start (at gone)).args.table.now (made gone) m.step_phase.last.0 m.step_phase.last.1.0
+  moved = m.step_phase.ensures
 
-set-now-requires-2 : tie.Need-set-now-requires-2
+set-now-requires-2 : tie.Need-set_now-requires-2
 set-now-requires-2 c κs =
     let m = c.before.before.before in
     let b = gone m in
     let a = start (at b) in
-    moved_store (entry (at b)) a.args.t a.pre (made b) (from-now b) (to-time b) m.step-phase.new.0 m.step-phase.new.1.0 (moved m)
+    moved_store (entry (at b)) a.args.t a.requires (made b) (from-now b) (to-time b) m.step_phase.new.store m.step_phase.new.table (moved m)
 
-same-length-2 : tie.Need-same-length-2
+same-length-2 : tie.Need-shape_of-store
 same-length-2 c = search rules
 
-same-length-3 : tie.Need-same-length-3
+same-length-3 : tie.Need-shape_of-table
 same-length-3 c = search rules
 
-returns-2 : tie.Need-returns-2
+returns-2 : tie.Need-returns
 returns-2 c =
     let n = c.before in
     let m = n.before.before.before.before in
     let b = gone m in
     let a = start (at b) in
-    later_step (entry (at b)) a.args.t a.pre (made b) (from-now b) (to-time b) m.step-phase.new.0 m.step-phase.new.1.0 (moved m) n.set-now2.new.0
-    (n.set-now2.ensures ∙ ap (λ (t : ℤ). store_of t (records_of m.step-phase.new.0)) (held w32 a.args.t (search rules)))
+    later_step (entry (at b)) a.args.t a.requires (made b) (from-now b) (to-time b) m.step_phase.new.store m.step_phase.new.table (moved m) n.set_now-2.new.store
+    (n.set_now-2.ensures ∙ ap (λ (t : ℤ). store_of t (records_of m.step_phase.new.store)) (held w32 a.args.t (search rules)))
 
-pub move-on-spec : {M : Type 1} → statement M
-move-on-spec =
+pub move_on_spec : {M : Type 1} → statement M
+move_on_spec =
     tie.close
     (tie.spec
     now-of-requires

@@ -30,22 +30,22 @@ module _ (c : tie.After-retire) where
   abbrev start : tie.Start
   start = c.before.before
 
-  left-words : words c.retire.new.0 start.args.table.now ≡ keeping (stays_at start.args.t) (entry start)
+  left-words : words c.retire.new.store start.args.table.now ≡ keeping (stays_at start.args.t) (entry start)
   left-words =
-      keeping_is (stays_at start.args.t) (entry start) c.retire.new.0
+      keeping_is (stays_at start.args.t) (entry start) c.retire.new.store
       (c.retire.ensures ∙ ap (λ (t : ℤ). store_of (time_in (entry start)) (kept (stays_at t) (records_in (entry start)))) (held w32 start.args.t (search rules)))
 
-move-on-requires : tie.Need-move-on-requires
+move-on-requires : tie.Need-move_on-requires
 move-on-requires c κs =
     let r = c.before.before.before in
     let a = start r in
     rw (held w32 a.args.t (search rules))
-    (subst (λ (w : Words). CanStep w a.args.t) (sym (left-words r)) (left_can_step (entry a) a.args.t a.pre.can_step))
+    (subst (λ (w : Words). CanStep w a.args.t) (sym (left-words r)) (left_can_step (entry a) a.args.t a.requires.can_step))
 
-same_length : tie.Need-same-length
+same_length : tie.Need-shape_of-store
 same_length c = search rules
 
-same-length-2 : tie.Need-same-length-2
+same-length-2 : tie.Need-shape_of-table
 same-length-2 c = search rules
 
 returns : tie.Need-returns
@@ -53,7 +53,7 @@ unfolding stepped
 returns c =
     let m = c.before.before in
     let r = m.before.before.before.before in
-    m.move-on.ensures ∙ ap₂ moved_on (held w32 (start r).args.t (search rules)) (left-words r)
+    m.move_on.ensures ∙ ap₂ moved_on (held w32 (start r).args.t (search rules)) (left-words r)
 
 pub step_spec : {M : Type 1} → statement M
 step_spec = tie.close (tie.spec retire-requires move-on-requires same_length same-length-2 returns)

@@ -6,13 +6,13 @@ use Rattle.words.proofs.take_out.Statement.{statement}
 use Rattle.words.proofs.take_out.Tie as tie
 
 remove-requires : tie.Need-remove-requires
-remove-requires c κs = c.before.requires.is_store
+remove-requires c κs = c.requires.is_store
 
-same_length : tie.Need-same-length
+same_length : tie.Need-shape_of-store
 same_length c = search rules
 
 returns : tie.Need-returns
 returns c = search (rules, taken_out_lem)
 
-pub take-out-spec : {M : Type 1} → statement M
-take-out-spec = tie.close (tie.spec remove-requires same_length returns)
+pub take_out_spec : {M : Type 1} → statement M
+take_out_spec = tie.close (tie.spec remove-requires same_length returns)
