@@ -100,7 +100,7 @@ module _ (m : tie.After-step_phase) where
   abbrev gone : tie.After-between-s
   gone = let else = m.before.before.before in else.before.before
 
-  moved : Moved (start (at gone)).args.store.now (start (at gone)).args.table.now (made gone) m.step_phase.last.0 m.step_phase.last.1.0
+  moved : Moved (start (at gone)).args.store.now (start (at gone)).args.table.now (made gone) m.step_phase.new.store m.step_phase.new.table
   moved = m.step_phase.ensures
 
 set-now-requires-2 : tie.Need-set_now-requires-2
