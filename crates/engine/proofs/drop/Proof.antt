@@ -15,19 +15,19 @@ use Rattle.engine.proofs.drop.Tie as tie
 change-requires : tie.Need-change-requires
 change-requires c κs = search rules
 
-same_length : tie.Need-same-length
+same_length : tie.Need-shape_of-store
 same_length c = search rules
 
-same-length-2 : tie.Need-same-length-2
+same-length-2 : tie.Need-shape_of-table
 same-length-2 c = search rules
 
 returns : tie.Need-returns
 returns c =
-    let m = c.before.before in
-    let a = m.before.before.before.args in
+    let m = c in
+    let a = m.args in
     let id = held w32 a.id (search rules) in
     let t = held w32 a.t (search rules) in
-    subst (λ (x : Change). Gives (change_out (words a.store.now a.table.now) x) m.change.result (words m.change.new.0 m.change.new.1.0))
+    subst (λ (x : Change). Gives (change_out (words a.store.now a.table.now) x) m.change.result (words m.change.new.store m.change.new.table))
     (λ i. Change.Drop (id i) (t i)) m.change.ensures
 
 pub drop_spec : {M : Type 1} → statement M

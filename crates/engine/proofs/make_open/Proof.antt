@@ -17,24 +17,24 @@ open-requires c κs = search rules
 
 accepted-requires : tie.Need-accepted-requires
 accepted-requires c κs =
-    let o = c.before.before.before in
-    let k = o.open.auto.0 in
-    omega (arith, o.before.before.before.requires.store_long)
+    let o = c in
+    let k = o.open.auto.store in
+    omega (arith, o.requires.store_long)
 
-same_length : tie.Need-same-length
+same_length : tie.Need-shape_of-store
 same_length c = search rules
 
-same-length-2 : tie.Need-same-length-2
+same-length-2 : tie.Need-shape_of-table
 same-length-2 c = search rules
 
 returns : tie.Need-returns
 returns c =
-    let o = c.before.before.before.before in
-    let a = o.before.before.before.args in
-    done_of o.open.new.0 o.open.new.1.0 _ c.accepted.result
+    let o = c in
+    let a = o.args in
+    done_of o.open.new.store o.open.new.table _ c.accepted.result
     (o.open.ensures ∙ ap (λ (t : ℤ). opened t (words a.store.now a.table.now)) (held w32 a.t (search rules)))
     c.accepted.ensures
 
-pub make-open-spec : {M : Type 1} → statement M
-make-open-spec =
+pub make_open_spec : {M : Type 1} → statement M
+make_open_spec =
     tie.close (tie.spec open-requires accepted-requires same_length same-length-2 returns)

@@ -9,42 +9,42 @@ use Rattle.ledger.proofs.RefusalsLaws.{fails, passes, none_fails}
 use Rattle.engine.proofs.checks.ask_verdict.Statement.{statement}
 use Rattle.engine.proofs.checks.ask_verdict.Tie as tie
 
-bad-ask-time-requires : tie.Need-bad-ask-time-requires
+bad-ask-time-requires : tie.Need-bad_ask_time-requires
 bad-ask-time-requires c κs = omega (arith, store-words_of c.args.store.now c.requires)
 
-returns : tie.Need-returns
-returns c = fails _ BadTime _ (sym c.before.bad-ask-time.ensures ∙ c.if1.true)
+returns : tie.Need-returns-then-bad_ask_time
+returns c = fails _ BadTime _ (sym c.bad_ask_time.ensures ∙ c.if-bad_ask_time.true)
 
-bad-window-requires : tie.Need-bad-window-requires
+bad-window-requires : tie.Need-bad_window-requires
 bad-window-requires c κs = search rules
 
-returns-2 : tie.Need-returns-2
+returns-2 : tie.Need-returns-then-bad_window
 returns-2 c =
-    let g = c.before.before in
-    passes _ BadTime _ _ (sym g.before.bad-ask-time.ensures ∙ g.if1.false)
-    (fails _ BadWindow _ (sym c.before.bad-window.ensures ∙ c.if2.true))
+    let g = c in
+    passes _ BadTime _ _ (sym g.bad_ask_time.ensures ∙ g.if-bad_ask_time.false)
+    (fails _ BadWindow _ (sym c.bad_window.ensures ∙ c.if-bad_window.true))
 
-bad-ask-requires : tie.Need-bad-ask-requires
+bad-ask-requires : tie.Need-bad_ask-requires
 bad-ask-requires c κs = search rules
 
-returns-3 : tie.Need-returns-3
+returns-3 : tie.Need-returns-then-bad_ask
 returns-3 c =
-    let h = c.before.before in
-    let g = h.before.before in
-    passes _ BadTime _ _ (sym g.before.bad-ask-time.ensures ∙ g.if1.false)
-    (passes _ BadWindow _ _ (sym h.before.bad-window.ensures ∙ h.if2.false)
-    (fails _ BadNumber _ (sym c.before.bad-ask.ensures ∙ c.if3.true)))
+    let h = c in
+    let g = h in
+    passes _ BadTime _ _ (sym g.bad_ask_time.ensures ∙ g.if-bad_ask_time.false)
+    (passes _ BadWindow _ _ (sym h.bad_window.ensures ∙ h.if-bad_window.false)
+    (fails _ BadNumber _ (sym c.bad_ask.ensures ∙ c.if-bad_ask.true)))
 
-returns-4 : tie.Need-returns-4
+returns-4 : tie.Need-returns
 returns-4 c =
-    let h = c.before.before in
-    let g = h.before.before in
-    passes _ BadTime _ _ (sym g.before.bad-ask-time.ensures ∙ g.if1.false)
-    (passes _ BadWindow _ _ (sym h.before.bad-window.ensures ∙ h.if2.false)
-    (passes _ BadNumber _ _ (sym c.before.bad-ask.ensures ∙ c.if3.false) none_fails))
+    let h = c in
+    let g = h in
+    passes _ BadTime _ _ (sym g.bad_ask_time.ensures ∙ g.if-bad_ask_time.false)
+    (passes _ BadWindow _ _ (sym h.bad_window.ensures ∙ h.if-bad_window.false)
+    (passes _ BadNumber _ _ (sym c.bad_ask.ensures ∙ c.if-bad_ask.false) none_fails))
 
-pub ask-verdict-spec : {M : Type 1} → statement M
-ask-verdict-spec =
+pub ask_verdict_spec : {M : Type 1} → statement M
+ask_verdict_spec =
     tie.close
     (tie.spec
     bad-ask-time-requires

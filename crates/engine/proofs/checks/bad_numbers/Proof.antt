@@ -10,37 +10,36 @@ use Rattle.ledger.specs.Refusals.{bad_numbers}
 use Rattle.engine.proofs.checks.bad_numbers.Statement.{statement}
 use Rattle.engine.proofs.checks.bad_numbers.Tie as tie
 
-enum-known-c : tie.Need-enum-known-c
+enum-known-c : tie.Need-enum_known-c
 enum-known-c c = search rules
 
-in-range-requires : tie.Need-in-range-requires
+in-range-requires : tie.Need-in_range-requires
 in-range-requires c κs = search rules
 
-enum-known-c-2 : tie.Need-enum-known-c-2
+enum-known-c-2 : tie.Need-enum_known-c-in-Report-1
 enum-known-c-2 c = search rules
 
-in-range-requires-2 : tie.Need-in-range-requires-2
+in-range-requires-2 : tie.Need-in_range-requires-in-Report
 in-range-requires-2 c κs = search rules
 
-enum-known-c-3 : tie.Need-enum-known-c-3
+enum-known-c-3 : tie.Need-enum_known-c-in-Drop-1
 enum-known-c-3 c = search rules
 
-is-id-requires : tie.Need-is-id-requires
+is-id-requires : tie.Need-is_id-requires
 is-id-requires c κs = search rules
 
-returns : tie.Need-returns
-returns c = ap not c.in_range_lem.ensures ∙ sym (ap bad_numbers c.before.before.c.given.1)
+returns : tie.Need-returns-in-Add
+returns c = ap not c.in_range.ensures ∙ sym (ap bad_numbers c.in-Add.is)
 
-returns-2 : tie.Need-returns-2
-returns-2 c = ap not c.in-range2.ensures ∙ sym (ap bad_numbers c.before.before.c2.given.1)
+returns-2 : tie.Need-returns-in-Report
+returns-2 c = ap not c.in_range-in-Report.ensures ∙ sym (ap bad_numbers c.in-Report.is)
 
-returns-3 : tie.Need-returns-3
+returns-3 : tie.Need-returns-in-Drop
 returns-3 c =
-    let k = c.before.before.c3.given in
-    ap not (tested₁ w32 is_id c.is-id.result k.0.0 c.is-id.ensures (search rules)) ∙ sym (ap bad_numbers k.1)
+    ap not (tested₁ w32 is_id c.is_id.result c.in-Drop.id c.is_id.ensures (search rules)) ∙ sym (ap bad_numbers c.in-Drop.is)
 
-pub bad-numbers-spec : {M : Type 1} → statement M
-bad-numbers-spec =
+pub bad_numbers_spec : {M : Type 1} → statement M
+bad_numbers_spec =
     tie.close
     (tie.spec
     enum-known-c

@@ -11,24 +11,23 @@ use Rattle.ledger.specs.Refusals.{bad_span}
 use Rattle.engine.proofs.checks.bad_window.Statement.{statement}
 use Rattle.engine.proofs.checks.bad_window.Tie as tie
 
-enum_told : tie.Need-enum-told
+enum_told : tie.Need-enum_told-1
 enum_told c = search rules
 
-enum-known-when : tie.Need-enum-known-when
+enum-known-when : tie.Need-enum_known-when
 enum-known-when c = search rules
 
-is-span-requires : tie.Need-is-span-requires
+is-span-requires : tie.Need-is_span-requires
 is-span-requires c κs = search rules
 
-returns : tie.Need-returns
+returns : tie.Need-returns-in-At
 returns c = search rules
 
-returns-2 : tie.Need-returns-2
+returns-2 : tie.Need-returns-in-During
 returns-2 c =
-    let k = c.before.before.when.given in
     let inside : ℤ → ℤ → Bool = (λ (f l : ℤ). between f (f +ℤ pos 3600) l) in
-    ap not (tested₂ w32 inside c.is-span.result k.0.0 k.0.1.0 c.is-span.ensures (search rules) (search rules))
-    ∙ sym (ap bad_span k.1)
+    ap not (tested₂ w32 inside c.is_span.result c.in-During.first c.in-During.last c.is_span.ensures (search rules) (search rules))
+    ∙ sym (ap bad_span c.in-During.is)
 
-pub bad-window-spec : {M : Type 1} → statement M
-bad-window-spec = tie.close (tie.spec enum_told enum-known-when is-span-requires returns returns-2)
+pub bad_window_spec : {M : Type 1} → statement M
+bad_window_spec = tie.close (tie.spec enum_told enum-known-when is-span-requires returns returns-2)

@@ -4,11 +4,11 @@ use Rattle.ints.proofs.Machine.{reads}
 use Rattle.engine.proofs.checks.in_order.Statement.{statement}
 use Rattle.engine.proofs.checks.in_order.Tie as tie
 
-returns : tie.Need-returns
+returns : tie.Need-returns-then-q
 returns c = search reads
 
-returns-2 : tie.Need-returns-2
+returns-2 : tie.Need-returns-else-q
 returns-2 c = search reads
 
-pub in-order-spec : {M : Type 1} → statement M
-in-order-spec = tie.close (tie.spec returns returns-2)
+pub in_order_spec : {M : Type 1} → statement M
+in_order_spec = tie.close (tie.spec returns returns-2)

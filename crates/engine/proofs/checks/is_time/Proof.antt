@@ -4,11 +4,11 @@ use Rattle.ints.proofs.Machine.{ranges}
 use Rattle.engine.proofs.checks.is_time.Statement.{statement}
 use Rattle.engine.proofs.checks.is_time.Tie as tie
 
-returns : tie.Need-returns
+returns : tie.Need-returns-then-t-ge0
 returns c = search ranges
 
-returns-2 : tie.Need-returns-2
+returns-2 : tie.Need-returns-else-t-ge0
 returns-2 c = search ranges
 
-pub is-time-spec : {M : Type 1} → statement M
-is-time-spec = tie.close (tie.spec returns returns-2)
+pub is_time_spec : {M : Type 1} → statement M
+is_time_spec = tie.close (tie.spec returns returns-2)

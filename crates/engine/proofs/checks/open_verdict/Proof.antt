@@ -11,30 +11,30 @@ use Rattle.ledger.proofs.RefusalsLaws.{fails, passes, none_fails}
 use Rattle.engine.proofs.checks.open_verdict.Statement.{statement}
 use Rattle.engine.proofs.checks.open_verdict.Tie as tie
 
-wrong-length-requires : tie.Need-wrong-length-requires
+wrong-length-requires : tie.Need-wrong_length-requires
 wrong-length-requires c κs = search rules
 
-returns : tie.Need-returns
-returns c = fails _ WrongLength _ (sym c.before.wrong-length.ensures ∙ c.if1.true)
+returns : tie.Need-returns-then-wrong_length
+returns c = fails _ WrongLength _ (sym c.wrong_length.ensures ∙ c.if-wrong_length.true)
 
-is-time-requires : tie.Need-is-time-requires
+is-time-requires : tie.Need-is_time-requires
 is-time-requires c κs = search rules
 
-time_is : (c : tie.After-is-time) → is_time c.before.before.before.args.t ≡ c.is_time_lem.result
-time_is c = sym (tested₁ w32 is_time c.is_time_lem.result c.before.before.before.args.t c.is_time_lem.ensures (search rules))
+time_is : (c : tie.After-is_time) → is_time c.args.t ≡ c.is_time.result
+time_is c = sym (tested₁ w32 is_time c.is_time.result c.args.t c.is_time.ensures (search rules))
 
-returns-2 : tie.Need-returns-2
+returns-2 : tie.Need-returns-then-not-is_time
 returns-2 c =
-    let g = c.before.before in
-    passes _ WrongLength _ _ (sym g.before.wrong-length.ensures ∙ g.if1.false)
-    (fails _ BadTime _ (ap not (time_is c.before) ∙ c.if2.true))
+    let g = c in
+    passes _ WrongLength _ _ (sym g.wrong_length.ensures ∙ g.if-wrong_length.false)
+    (fails _ BadTime _ (ap not (time_is c.before) ∙ ap not c.if-not-is_time.true))
 
-returns-3 : tie.Need-returns-3
+returns-3 : tie.Need-returns
 returns-3 c =
-    let g = c.before.before in
-    passes _ WrongLength _ _ (sym g.before.wrong-length.ensures ∙ g.if1.false)
-    (passes _ BadTime _ _ (ap not (time_is c.before) ∙ c.if2.false) none_fails)
+    let g = c in
+    passes _ WrongLength _ _ (sym g.wrong_length.ensures ∙ g.if-wrong_length.false)
+    (passes _ BadTime _ _ (ap not (time_is c.before) ∙ ap not c.if-not-is_time.false) none_fails)
 
-pub open-verdict-spec : {M : Type 1} → statement M
-open-verdict-spec =
+pub open_verdict_spec : {M : Type 1} → statement M
+open_verdict_spec =
     tie.close (tie.spec wrong-length-requires returns is-time-requires returns-2 returns-3)

@@ -15,37 +15,37 @@ use Rattle.engine.proofs.checks.out_of_ask_range.Tie as tie
 abbrev same : ℤ → ℤ
 same z = z
 
-is-time-requires : tie.Need-is-time-requires
+is-time-requires : tie.Need-is_time-requires
 is-time-requires c κs = search rules
 
-time_is : (c : tie.After-is-time) → is_time c.before.args.t ≡ c.is_time_lem.result
-time_is c = sym (tested₁ w32 is_time c.is_time_lem.result c.before.args.t c.is_time_lem.ensures (search rules))
+time_is : (c : tie.After-is_time) → is_time c.args.t ≡ c.is_time.result
+time_is c = sym (tested₁ w32 is_time c.is_time.result c.args.t c.is_time.ensures (search rules))
 
-returns : tie.Need-returns
-returns c = sym (simp (time_is c.before ∙ not-true c.before.is_time_lem.result c.if1.true))
+returns : tie.Need-returns-then-not-is_time
+returns c = sym (simp (time_is c.before ∙ c.if-not-is_time.true))
 
-now-of-requires : tie.Need-now-of-requires
+now-of-requires : tie.Need-now_of-requires
 now-of-requires c κs = search rules
 
-wide-signed-requires : tie.Need-wide-signed-requires
+wide-signed-requires : tie.Need-wide_signed-requires
 wide-signed-requires c κs = search rules
 
-is-near-requires : tie.Need-is-near-requires
-is-near-requires c κs = let n = c.before in simp (held w64 n.now_of.result (search rules)) n.now_of.ensures.1
+is-near-requires : tie.Need-is_near-requires
+is-near-requires c κs = let n = c in simp (held w64 n.now_of.result (search rules)) n.now_of.ensures.1
 
-returns-2 : tie.Need-returns-2
+returns-2 : tie.Need-returns
 returns-2 c =
-    let w = c.before in
-    let n = w.before in
+    let w = c in
+    let n = w in
     let k = n.before in
     let x = held w64 n.now_of.result (search rules) ∙ n.now_of.ensures.0 in
-    let t = k.before.before.args.t in
+    let t = k.args.t in
     let y = called₁ w32 w64 same w.wide_signed.result t (search rules) w.wide_signed.ensures (search rules) in
-    ap not (c.is-near.ensures ∙ (λ i. between (x i -ℤ pos 3600) (x i +ℤ pos 7200) (y i)))
-    ∙ sym (simp (time_is k.before ∙ not-false k.before.is_time_lem.result k.if1.false))
+    ap not (c.is_near.ensures ∙ (λ i. between (x i -ℤ pos 3600) (x i +ℤ pos 7200) (y i)))
+    ∙ sym (simp (time_is k.before.before.before ∙ k.if-not-is_time.false))
 
-pub out-of-ask-range-spec : {M : Type 1} → statement M
-out-of-ask-range-spec =
+pub out_of_ask_range_spec : {M : Type 1} → statement M
+out_of_ask_range_spec =
     tie.close
     (tie.spec
     is-time-requires

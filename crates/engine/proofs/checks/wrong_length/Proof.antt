@@ -4,11 +4,11 @@ use borrow.Author.Tests.{eq-eqb, ne_eqb}
 use Rattle.engine.proofs.checks.wrong_length.Statement.{statement}
 use Rattle.engine.proofs.checks.wrong_length.Tie as tie
 
-returns : tie.Need-returns
-returns c = simp (ne_eqb _ _ c.if1.true)
+returns : tie.Need-returns-then-store-ne-STORE_WORDS
+returns c = simp (ne_eqb _ _ c.if-store-ne-STORE_WORDS.true)
 
-returns-2 : tie.Need-returns-2
-returns-2 c = simp (eq-eqb _ _ c.if1.false)
+returns-2 : tie.Need-returns
+returns-2 c = simp (eq-eqb _ _ c.if-store-ne-STORE_WORDS.false)
 
-pub wrong-length-spec : {M : Type 1} → statement M
-wrong-length-spec = tie.close (tie.spec returns returns-2)
+pub wrong_length_spec : {M : Type 1} → statement M
+wrong_length_spec = tie.close (tie.spec returns returns-2)

@@ -7,11 +7,11 @@ use Rattle.records.proofs.RecordsLaws.{held_records}
 use Rattle.engine.proofs.sound.accepted.Statement.{statement}
 use Rattle.engine.proofs.sound.accepted.Tie as tie
 
-held-of-requires : tie.Need-held-of-requires
+held-of-requires : tie.Need-held_of-requires
 held-of-requires c κs = search rules
 
 returns : tie.Need-returns
-returns c = ap Accepted (c.held_of.ensures ∙ sym (held_records c.before.args.store.now))
+returns c = ap Accepted (c.held_of.ensures ∙ sym (held_records c.args.store.now))
 
-pub accepted-spec : {M : Type 1} → statement M
-accepted-spec = tie.close (tie.spec held-of-requires returns)
+pub accepted_spec : {M : Type 1} → statement M
+accepted_spec = tie.close (tie.spec held-of-requires returns)

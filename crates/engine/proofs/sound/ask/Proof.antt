@@ -15,54 +15,54 @@ use Rattle.engine.proofs.GivesLaws.{list_refused}
 use Rattle.engine.proofs.sound.ask.Statement.{statement}
 use Rattle.engine.proofs.sound.ask.Tie as tie
 
-ask-verdict-requires : tie.Need-ask-verdict-requires
-ask-verdict-requires c κs = let b = c.before in sound_store (words b.args.store.now b.args.table.now) b.requires
+ask-verdict-requires : tie.Need-ask_verdict-requires
+ask-verdict-requires c κs = let b = c in sound_store (words b.args.store.now b.args.table.now) b.requires
 
-enum-known-why : tie.Need-enum-known-why
+enum-known-why : tie.Need-enum_known-why
 enum-known-why c = search rules
 
-enum_told : tie.Need-enum-told
+enum_told : tie.Need-enum_told-1
 enum_told c = search rules
 
-ask-sound-requires : tie.Need-ask-sound-requires
+ask-sound-requires : tie.Need-ask_sound-requires
 ask-sound-requires c κs =
-    let k = c.before in
-    let v = k.before.before in
-    let b = v.before.before in
-    ask_passed (words b.args.store.now b.args.table.now) b.requires b.args.ask (sym v.ask-verdict.ensures ∙ k.enum_told.given.1)
+    let k = c in
+    let v = k in
+    let b = v in
+    ask_passed (words b.args.store.now b.args.table.now) b.requires b.args.ask (sym v.ask_verdict.ensures ∙ k.in-Passed.is)
 
-returns : tie.Need-returns
+returns : tie.Need-returns-in-Failed
 unfolding ask_out
 returns c =
-    let k = c.before in
-    let v = k.before.before in
-    let b = v.before.before in
+    let k = c in
+    let v = k in
+    let b = v in
     let a = b.args in
     let w = words a.store.now a.table.now in
     let room = room_checks (length a.list.now) (ids_needed w a.ask) in
-    let failed = failed_before (ask_number_checks (time_in w) a.ask) room k.why.given.0.0 (sym v.ask-verdict.ensures ∙ k.why.given.1) in
-    list_refused _ k.why.given.0.0 w a.ask a.list.now (sym (sound_lent w b.requires _) ∙ failed)
+    let failed = failed_before (ask_number_checks (time_in w) a.ask) room k.in-Failed.why (sym v.ask_verdict.ensures ∙ k.in-Failed.is) in
+    list_refused _ k.in-Failed.why w a.ask a.list.now (sym (sound_lent w b.requires _) ∙ failed)
 
-same_length : tie.Need-same-length
+same_length : tie.Need-shape_of-list
 same_length c = search rules
 
-returns-2 : tie.Need-returns-2
+returns-2 : tie.Need-returns-in-Passed
 unfolding ask_out
 returns-2 c =
-    let m = c.before.before in
-    let k = m.before.before in
-    let v = k.before.before in
-    let b = v.before.before in
+    let m = c in
+    let k = m in
+    let v = k in
+    let b = v in
     let a = b.args in
     let w = words a.store.now a.table.now in
     let room = room_checks (length a.list.now) (ids_needed w a.ask) in
     let same =
-    passed_before (ask_number_checks (time_in w) a.ask) room (sym v.ask-verdict.ensures ∙ k.enum_told.given.1)
+    passed_before (ask_number_checks (time_in w) a.ask) room (sym v.ask_verdict.ensures ∙ k.in-Passed.is)
     ∙ sound_lent w b.requires _ in
-    subst (λ (x : Verdict). GivesList (ask_settled x w a.ask a.list.now) m.ask-sound.result m.ask-sound.new.1.1.0) same m.ask-sound.ensures
+    subst (λ (x : Verdict). GivesList (ask_settled x w a.ask a.list.now) m.ask_sound.result m.ask_sound.new.list) same m.ask_sound.ensures
 
-pub ask-spec : {M : Type 1} → statement M
-ask-spec =
+pub ask_spec : {M : Type 1} → statement M
+ask_spec =
     tie.close
     (tie.spec
     ask-verdict-requires

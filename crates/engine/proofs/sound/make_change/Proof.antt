@@ -26,12 +26,12 @@ module _ (a : tie.Start) where
   then = stepped (time_of a.args.c) entry
 
   can-apply : CanApply then a.args.c
-  can-apply = change_can_apply entry a.args.c a.pre.can_make
+  can-apply = change_can_apply entry a.args.c a.requires.can_make
 
   held-is : a.args.left ≡ length (records_in then)
-  held-is = held_then entry (time_of a.args.c) (change_can_step entry a.args.c a.pre.can_make) a.args.left a.pre.left_is
+  held-is = held_then entry (time_of a.args.c) (change_can_step entry a.args.c a.requires.can_make) a.args.left a.requires.left_is
 
-held-after-requires : tie.Need-held-after-requires
+held-after-requires : tie.Need-held_after-held-requires
 held-after-requires c κs = subst (CanCount c.args.c) (sym (held-is c)) (can_count (then c) c.args.c (can-apply c))
 
 time-requires : tie.Need-time-requires
@@ -49,9 +49,9 @@ step-requires : tie.Need-step-requires
 step-requires c κs =
     let a = start c in
     subst (λ (t : ℤ). CanRetire (entry a) t a.args.left) (sym (time_is c))
-    (record { can_step = change_can_step (entry a) a.args.c a.pre.can_make; left_is = a.pre.left_is })
+    (record { can_step = change_can_step (entry a) a.args.c a.requires.can_make; left_is = a.requires.left_is })
 
-stepped-is : (c : tie.After-step) → words c.step.new.0 c.step.new.1.0 ≡ then (start c.before)
+stepped-is : (c : tie.After-step) → words c.step.new.store c.step.new.table ≡ then (start c.before)
 stepped-is c = c.step.ensures ∙ ap (λ (t : ℤ). stepped t (entry (start c.before))) (time_is c.before)
 
 apply-requires : tie.Need-apply-requires
@@ -60,27 +60,27 @@ apply-requires c κs =
     let a = start s.before in
     subst (λ (v : Words). CanApply v a.args.c) (sym (stepped-is s)) (can-apply a)
 
-same_length : tie.Need-same-length
+same_length : tie.Need-shape_of-store
 same_length c = search rules
 
-same-length-2 : tie.Need-same-length-2
+same-length-2 : tie.Need-shape_of-table
 same-length-2 c = search rules
 
 returns : tie.Need-returns
 returns c =
-    let p = c.before.before in
-    let k = p.before.before.before in
-    let s = k.before.before in
+    let p = c in
+    let k = p in
+    let s = k.before.before.before.before.before.before.before in
     let a = start s.before in
-    let h = s.before.before.before.before in
+    let h = s in
     record {
       answer_is = ap Accepted
-          (h.held_after.ensures ∙ ap (held_after a.args.c) (held-is a) ∙ sym (changed_count (then a) a.args.c (can-apply a)));
+          (h.held_after-held.ensures ∙ ap (held_after a.args.c) (held-is a) ∙ sym (changed_count (then a) a.args.c (can-apply a)));
       words_are = p.apply.ensures ∙ ap (changed a.args.c) (stepped-is s);
     }
 
-pub make-change-spec : {M : Type 1} → statement M
-make-change-spec =
+pub make_change_spec : {M : Type 1} → statement M
+make_change_spec =
     tie.close
     (tie.spec
     held-after-requires
