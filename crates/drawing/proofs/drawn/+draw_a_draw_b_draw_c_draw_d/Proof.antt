@@ -74,9 +74,9 @@ draw-a-number-cell-requires t c κs = search rules
 
 draw-a-returns : (t : ℕ) → draw-a-lts.Need-returns (calls-a t) (draw-a-at t) draw-a.Post
 draw-a-returns t c =
-    let b = c.before.before in
-    let a = b.before.before.args in
-    c.number-cell.ensures ∙ sym (drawn_cell ShapeA a.square a.out.now b.if1.true)
+    let b = c in
+    let a = b.args in
+    c.number_cell.ensures ∙ sym (drawn_cell ShapeA a.square a.out.now b.if-square-eq0.true)
 
 draw-a-quarter-requires : (t : ℕ) → draw-a-lts.Need-quarter-requires (calls-a t) (draw-a-at t) draw-a.Post
 draw-a-quarter-requires t c κs = search cut
@@ -105,13 +105,13 @@ draw-a-draw-c-requires t c κs = (search quarter_lower, search (quarter_on_grid,
 draw-a-returns-2 : (t : ℕ) → draw-a-lts.Need-returns-2 (calls-a t) (draw-a-at t) draw-a.Post
 unfolding part_of
 draw-a-returns-2 t c =
-    let d3 = c.before.before.before in
-    let d2 = d3.before.before.before in
-    let d1 = d2.before.before.before in
-    let more = d1.before.before.before in
-    let a = more.before.before.args in
-    drawn_in_four ShapeA a.square (omega (arith, more.if1.false)) a.out.now d1.before.quarter.ensures d2.before.quarter2.ensures
-    d3.before.quarter3.ensures c.before.quarter4.ensures d1.draw-b.ensures d2.draw-a.ensures d3.draw-a2.ensures c.draw-c.ensures
+    let d3 = c in
+    let d2 = d3 in
+    let d1 = d2 in
+    let more = d1 in
+    let a = more.args in
+    drawn_in_four ShapeA a.square (omega (arith, more.if-square-eq0.false)) a.out.now d1.quarter.ensures d2.quarter-2.ensures
+    d3.quarter-3.ensures c.quarter-4.ensures d1.draw_b.ensures d2.draw_a.ensures d3.draw_a-2.ensures c.draw_c.ensures
 
 -- ---- shape B
 
@@ -123,9 +123,9 @@ draw-b-number-cell-requires t c κs = search rules
 
 draw-b-returns : (t : ℕ) → draw-b-lts.Need-returns (calls-b t) (draw-b-at t) draw-b.Post
 draw-b-returns t c =
-    let b = c.before.before in
-    let a = b.before.before.args in
-    c.number-cell.ensures ∙ sym (drawn_cell ShapeB a.square a.out.now b.if1.true)
+    let b = c in
+    let a = b.args in
+    c.number_cell.ensures ∙ sym (drawn_cell ShapeB a.square a.out.now b.if-square-eq0.true)
 
 draw-b-quarter-requires : (t : ℕ) → draw-b-lts.Need-quarter-requires (calls-b t) (draw-b-at t) draw-b.Post
 draw-b-quarter-requires t c κs = search cut
@@ -154,13 +154,13 @@ draw-b-draw-d-requires t c κs = (search quarter_lower, search (quarter_on_grid,
 draw-b-returns-2 : (t : ℕ) → draw-b-lts.Need-returns-2 (calls-b t) (draw-b-at t) draw-b.Post
 unfolding part_of
 draw-b-returns-2 t c =
-    let d3 = c.before.before.before in
-    let d2 = d3.before.before.before in
-    let d1 = d2.before.before.before in
-    let more = d1.before.before.before in
-    let a = more.before.before.args in
-    drawn_in_four ShapeB a.square (omega (arith, more.if1.false)) a.out.now d1.before.quarter.ensures d2.before.quarter2.ensures
-    d3.before.quarter3.ensures c.before.quarter4.ensures d1.draw-a.ensures d2.draw-b.ensures d3.draw-b2.ensures c.draw-d.ensures
+    let d3 = c in
+    let d2 = d3 in
+    let d1 = d2 in
+    let more = d1 in
+    let a = more.args in
+    drawn_in_four ShapeB a.square (omega (arith, more.if-square-eq0.false)) a.out.now d1.quarter.ensures d2.quarter-2.ensures
+    d3.quarter-3.ensures c.quarter-4.ensures d1.draw_a.ensures d2.draw_b.ensures d3.draw_b-2.ensures c.draw_d.ensures
 
 -- ---- shape C
 
@@ -172,9 +172,9 @@ draw-c-number-cell-requires t c κs = search rules
 
 draw-c-returns : (t : ℕ) → draw-c-lts.Need-returns (calls-c t) (draw-c-at t) draw-c.Post
 draw-c-returns t c =
-    let b = c.before.before in
-    let a = b.before.before.args in
-    c.number-cell.ensures ∙ sym (drawn_cell ShapeC a.square a.out.now b.if1.true)
+    let b = c in
+    let a = b.args in
+    c.number_cell.ensures ∙ sym (drawn_cell ShapeC a.square a.out.now b.if-square-eq0.true)
 
 draw-c-quarter-requires : (t : ℕ) → draw-c-lts.Need-quarter-requires (calls-c t) (draw-c-at t) draw-c.Post
 draw-c-quarter-requires t c κs = search cut
@@ -203,13 +203,13 @@ draw-c-draw-a-requires t c κs = (search quarter_lower, search (quarter_on_grid,
 draw-c-returns-2 : (t : ℕ) → draw-c-lts.Need-returns-2 (calls-c t) (draw-c-at t) draw-c.Post
 unfolding part_of
 draw-c-returns-2 t c =
-    let d3 = c.before.before.before in
-    let d2 = d3.before.before.before in
-    let d1 = d2.before.before.before in
-    let more = d1.before.before.before in
-    let a = more.before.before.args in
-    drawn_in_four ShapeC a.square (omega (arith, more.if1.false)) a.out.now d1.before.quarter.ensures d2.before.quarter2.ensures
-    d3.before.quarter3.ensures c.before.quarter4.ensures d1.draw-d.ensures d2.draw-c.ensures d3.draw-c2.ensures c.draw-a.ensures
+    let d3 = c in
+    let d2 = d3 in
+    let d1 = d2 in
+    let more = d1 in
+    let a = more.args in
+    drawn_in_four ShapeC a.square (omega (arith, more.if-square-eq0.false)) a.out.now d1.quarter.ensures d2.quarter-2.ensures
+    d3.quarter-3.ensures c.quarter-4.ensures d1.draw_d.ensures d2.draw_c.ensures d3.draw_c-2.ensures c.draw_a.ensures
 
 -- ---- shape D
 
@@ -221,9 +221,9 @@ draw-d-number-cell-requires t c κs = search rules
 
 draw-d-returns : (t : ℕ) → draw-d-lts.Need-returns (calls-d t) (draw-d-at t) draw-d.Post
 draw-d-returns t c =
-    let b = c.before.before in
-    let a = b.before.before.args in
-    c.number-cell.ensures ∙ sym (drawn_cell ShapeD a.square a.out.now b.if1.true)
+    let b = c in
+    let a = b.args in
+    c.number_cell.ensures ∙ sym (drawn_cell ShapeD a.square a.out.now b.if-square-eq0.true)
 
 draw-d-quarter-requires : (t : ℕ) → draw-d-lts.Need-quarter-requires (calls-d t) (draw-d-at t) draw-d.Post
 draw-d-quarter-requires t c κs = search cut
@@ -252,16 +252,16 @@ draw-d-draw-b-requires t c κs = (search quarter_lower, search (quarter_on_grid,
 draw-d-returns-2 : (t : ℕ) → draw-d-lts.Need-returns-2 (calls-d t) (draw-d-at t) draw-d.Post
 unfolding part_of
 draw-d-returns-2 t c =
-    let d3 = c.before.before.before in
-    let d2 = d3.before.before.before in
-    let d1 = d2.before.before.before in
-    let more = d1.before.before.before in
-    let a = more.before.before.args in
-    drawn_in_four ShapeD a.square (omega (arith, more.if1.false)) a.out.now d1.before.quarter.ensures d2.before.quarter2.ensures
-    d3.before.quarter3.ensures c.before.quarter4.ensures d1.draw-c.ensures d2.draw-d.ensures d3.draw-d2.ensures c.draw-b.ensures
+    let d3 = c in
+    let d2 = d3 in
+    let d1 = d2 in
+    let more = d1 in
+    let a = more.args in
+    drawn_in_four ShapeD a.square (omega (arith, more.if-square-eq0.false)) a.out.now d1.quarter.ensures d2.quarter-2.ensures
+    d3.quarter-3.ensures c.quarter-4.ensures d1.draw_c.ensures d2.draw_d.ensures d3.draw_d-2.ensures c.draw_b.ensures
 
-pub +draw-a-draw-b-draw-c-draw-d-spec : {M : Type 1} → statement M
-+draw-a-draw-b-draw-c-draw-d-spec =
+pub +draw_a_draw_b_draw_c_draw_d_spec : {M : Type 1} → statement M
++draw_a_draw_b_draw_c_draw_d_spec =
     close μ-draw-a μ-draw-b μ-draw-c μ-draw-d
     (λ t. draw-a-lts.spec (calls-a t) (draw-a-at t) draw-a.Post
     (draw-a-number-cell-requires t) (draw-a-returns t) (draw-a-quarter-requires t) (draw-a-draw-b-requires t) (draw-a-quarter-requires-2 t) (draw-a-draw-a-requires t)
