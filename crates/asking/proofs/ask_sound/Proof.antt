@@ -5,17 +5,17 @@ use borrow.Author.Rules.{rules}
 use Rattle.asking.proofs.ask_sound.Statement.{statement}
 use Rattle.asking.proofs.ask_sound.Tie as tie
 
-slice-aggregate-ask-with : tie.Need-slice-aggregate-ask-with
+slice-aggregate-ask-with : tie.Need-slice_bounds-ask_with-end
 slice-aggregate-ask-with c = refl
 
-ask-with-requires : tie.Need-ask-with-requires
-ask-with-requires c κs = record { can_ask = c.before.before.before.requires; room = search rules }
+ask-with-requires : tie.Need-ask_with-requires
+ask-with-requires c κs = record { can_ask = c.requires; room = search rules }
 
-same_length : tie.Need-same-length
+same_length : tie.Need-shape_of-list
 same_length c = search rules
 
 returns : tie.Need-returns
-returns c = c.before.before.before.ask-with.ensures
+returns c = c.ask_with.ensures
 
-pub ask-sound-spec : {M : Type 1} → statement M
-ask-sound-spec = tie.close (tie.spec slice-aggregate-ask-with ask-with-requires same_length returns)
+pub ask_sound_spec : {M : Type 1} → statement M
+ask_sound_spec = tie.close (tie.spec slice-aggregate-ask-with ask-with-requires same_length returns)

@@ -4,25 +4,25 @@ use borrow.Author.Rules.{rules}
 use Rattle.asking.proofs.choose_in.Statement.{statement}
 use Rattle.asking.proofs.choose_in.Tie as tie
 
-slot-of-requires : tie.Need-slot-of-requires
+slot-of-requires : tie.Need-slot_of-slot-requires
 slot-of-requires c κs = search rules
 
-view-of-requires : tie.Need-view-of-requires
-view-of-requires c κs = c.before.requires.can_see
+view-of-requires : tie.Need-view_of-view-requires
+view-of-requires c κs = c.requires.can_see
 
-number-of-requires : tie.Need-number-of-requires
-number-of-requires c κs = c.before.before.requires.good_method
+number-of-requires : tie.Need-number_of-number-requires
+number-of-requires c κs = c.requires.good_method
 
 choose-requires : tie.Need-choose-requires
 choose-requires c κs =
-    let o = c.before.before in
-    let a = o.before.before in
-    rw (o.before.slot_of.ensures, o.view_of.ensures) (record { of_slot = a.requires.slot; ask = a.requires.is_ask; fair = a.requires.fair; one_each = search rules })
+    let o = c in
+    let a = o in
+    rw (o.slot_of-slot.ensures, o.view_of-view.ensures) (record { of_slot = a.requires.slot; ask = a.requires.is_ask; fair = a.requires.fair; one_each = search rules })
 
 returns : tie.Need-returns
 returns c =
-    let n = c.before.before in
-    rw (n.number_of_lem.ensures, n.before.view_of.ensures, n.before.before.slot_of.ensures) at c.choose.ensures
+    let n = c in
+    rw (n.number_of-number.ensures, n.view_of-view.ensures, n.slot_of-slot.ensures) at c.choose.ensures
 
-pub choose-in-spec : {M : Type 1} → statement M
-choose-in-spec = tie.close (tie.spec slot-of-requires view-of-requires number-of-requires choose-requires returns)
+pub choose_in_spec : {M : Type 1} → statement M
+choose_in_spec = tie.close (tie.spec slot-of-requires view-of-requires number-of-requires choose-requires returns)

@@ -5,13 +5,13 @@ use Rattle.rows.proofs.PhasesLaws.{slot_on}
 use Rattle.asking.proofs.read_in.Statement.{statement}
 use Rattle.asking.proofs.read_in.Tie as tie
 
-slot-of-requires : tie.Need-slot-of-requires
+slot-of-requires : tie.Need-slot_of-requires
 slot-of-requires c κs = search rules
 
-read-cells-requires : tie.Need-read-cells-requires
+read-cells-requires : tie.Need-read_cells-requires
 read-cells-requires c κs =
-    let s = c.before.before in
-    let a = s.before.before in
+    let s = c in
+    let a = s in
     record {
       store = a.requires.is_store;
       one_of_three = rw s.slot_of.ensures (slot_on a.args.p);
@@ -20,14 +20,14 @@ read-cells-requires c κs =
       small = a.requires.small;
     }
 
-same_length : tie.Need-same-length
+same_length : tie.Need-shape_of-ids
 same_length c = search rules
 
 returns : tie.Need-returns
 returns c =
-    let r = c.before.before in
-    let slot = r.before.before.before.slot_of.ensures in
-    record { reading_is = rw slot at r.read-cells.ensures.0; ids_are = rw slot at r.read-cells.ensures.1 }
+    let r = c in
+    let slot = r.slot_of.ensures in
+    record { reading_is = rw slot at r.read_cells.ensures.0; ids_are = rw slot at r.read_cells.ensures.1 }
 
-pub read-in-spec : {M : Type 1} → statement M
-read-in-spec = tie.close (tie.spec slot-of-requires read-cells-requires same_length returns)
+pub read_in_spec : {M : Type 1} → statement M
+read_in_spec = tie.close (tie.spec slot-of-requires read-cells-requires same_length returns)
