@@ -9,16 +9,16 @@ use borrow.Author.Rules.{rules}
 use Rattle.answers.proofs.write_no_call.Statement.{statement}
 use Rattle.answers.proofs.write_no_call.Tie as tie
 
-write-start-requires : tie.Need-write-start-requires
+write-start-requires : tie.Need-write_start-requires
 unfolding every
 write-start-requires c κs = record { room = omega arith; writable = refl }
 
-same_length : tie.Need-same-length
+same_length : tie.Need-shape_of-out
 same_length c = search rules
 
 returns : tie.Need-returns
 unfolding no_call_line letter_of
-returns c = c.before.before.write-start.ensures
+returns c = c.write_start.ensures
 
-pub write-no-call-spec : {M : Type 1} → statement M
-write-no-call-spec = tie.close (tie.spec write-start-requires same_length returns)
+pub write_no_call_spec : {M : Type 1} → statement M
+write_no_call_spec = tie.close (tie.spec write-start-requires same_length returns)

@@ -11,38 +11,38 @@ use borrow.Author.Rules.{rules}
 use Rattle.answers.proofs.write_start.Statement.{statement}
 use Rattle.answers.proofs.write_start.Tie as tie
 
-number_is : (c : tie.After-above) → back w32 c.above.result ≡ pos c.before.before.args.number
-number_is c = got w32 c.above.result (pos c.before.before.args.number) (search rules) c.above.ensures
+number_is : (c : tie.After-above) → back w32 c.above.result ≡ pos c.args.number
+number_is c = got w32 c.above.result (pos c.args.number) (search rules) c.above.ensures
 
-value_is : (c : tie.After-above2) → back w32 c.above2.result ≡ pos c.before.before.before.args.value
-value_is c = got w32 c.above2.result (pos c.before.before.before.args.value) (search rules) c.above2.ensures
+value_is : (c : tie.After-above-2) → back w32 c.above-2.result ≡ pos c.args.value
+value_is c = got w32 c.above-2.result (pos c.args.value) (search rules) c.above-2.ensures
 
 above-requires : tie.Need-above-requires
 above-requires c κs =
-    let a = c.before in
+    let a = c in
     small_at (a.args.number ∷ a.args.value ∷ []) 0 a.args.number a.requires.writable (lit< tt) refl
 
 above-requires-2 : tie.Need-above-requires-2
 above-requires-2 c κs =
-    let a = c.before.before in
+    let a = c in
     small_at (a.args.number ∷ a.args.value ∷ []) 1 a.args.value a.requires.writable (lit< tt) refl
 
-slice-aggregate-write-line : tie.Need-slice-aggregate-write-line
+slice-aggregate-write-line : tie.Need-slice_bounds-write_line-end
 slice-aggregate-write-line c = search rules
 
-write-line-requires : tie.Need-write-line-requires
+write-line-requires : tie.Need-write_line-requires
 write-line-requires c κs =
     let v = c.before.before in
-    simp (number_is v.before, value_is v) v.before.before.before.requires
+    simp (number_is v.before, value_is v) v.requires
 
-same_length : tie.Need-same-length
+same_length : tie.Need-shape_of-out
 same_length c = search rules
 
 returns : tie.Need-returns
 returns c =
-    let w = c.before.before in
-    let v = w.before.before.before in
-    simp (number_is v.before, value_is v) at w.write-line.ensures
+    let w = c in
+    let v = w.before.before.before.before.before in
+    simp (number_is v.before, value_is v) at w.write_line.ensures
 
-pub write-start-spec : {M : Type 1} → statement M
-write-start-spec = tie.close (tie.spec above-requires above-requires-2 slice-aggregate-write-line write-line-requires same_length returns)
+pub write_start_spec : {M : Type 1} → statement M
+write_start_spec = tie.close (tie.spec above-requires above-requires-2 slice-aggregate-write-line write-line-requires same_length returns)

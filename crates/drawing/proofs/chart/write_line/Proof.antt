@@ -5,27 +5,27 @@ use Rattle.drawing.proofs.ChartLaws.{line_put}
 use Rattle.drawing.proofs.chart.write_line.Statement.{statement}
 use Rattle.drawing.proofs.chart.write_line.Tie as tie
 
-write-unsigned-requires : tie.Need-write-unsigned-requires
+write-unsigned-requires : tie.Need-write_unsigned-requires
 write-unsigned-requires c κs = search rules
 
-add-out : tie.Need-overflow-add-out
+add-out : tie.Need-overflow_add-out
 add-out c = search rules
 
-sub_out : tie.Need-overflow-sub-out
+sub_out : tie.Need-overflow_sub-out
 sub_out c = search rules
 
-slice-write-out : tie.Need-slice-write-out
+slice-write-out : tie.Need-bounds-out-at
 slice-write-out c = search rules
 
-same_length : tie.Need-same-length
+same_length : tie.Need-shape_of-out
 same_length c = search rules
 
 returns : tie.Need-returns
 returns c =
-    let w = c.before.before in
-    let a = w.before.before.before.before in
-    line_put a.args.out.now w.write-unsigned.new.0 a.args.numbers.now a.args.at a.requires.long
-    (λ i. (w.before.before.shared-slice-known.given i).fits) a.requires.room w.write-unsigned.auto.0 w.write-unsigned.ensures
+    let w = c in
+    let a = w in
+    line_put a.args.out.now w.write_unsigned.new.out a.args.numbers.now a.args.at a.requires.long
+    (λ i. (w.shared_slice_known-1.given i).fits) a.requires.room w.write_unsigned.auto.out w.write_unsigned.ensures
 
-pub write-line-spec : {M : Type 1} → statement M
-write-line-spec = tie.close (tie.spec write-unsigned-requires add-out sub_out slice-write-out same_length returns)
+pub write_line_spec : {M : Type 1} → statement M
+write_line_spec = tie.close (tie.spec write-unsigned-requires add-out sub_out slice-write-out same_length returns)

@@ -14,81 +14,81 @@ use Rattle.drawing.proofs.ChartLaws.{row_part, row_length, rows_length, lines_in
 use Rattle.drawing.proofs.chart.write_lines.Statement.{statement}
 use Rattle.drawing.proofs.chart.write_lines.Tie as tie
 
-abbrev invariant-loop : tie.invariant-loop
+abbrev invariant-loop : tie.invariant-loop-row
 invariant-loop out₀ numbers row₀ out row =
     (row ≤ side) × (length out ≡ length out₀) × (put out₀ 0 chart_text ≡ left chart_lines line_bytes 0 (grid_rows 0 side) out row)
 
-abbrev decreases-loop : tie.decreases-loop
+abbrev decreases-loop : tie.decreases-loop-row
 decreases-loop out₀ numbers row₀ out row = side - row
 
-loop-holds : tie.Need-loop-init invariant-loop decreases-loop
-loop-holds c = (omega arith, refl, left_all chart_lines line_bytes 0 (grid_rows 0 side) c.before.before.args.out.now)
+loop-holds : tie.Need-loop-row-init invariant-loop decreases-loop
+loop-holds c = (omega arith, refl, left_all chart_lines line_bytes 0 (grid_rows 0 side) c.args.out.now)
 
-mul-write-line : tie.Need-overflow-mul-write-line invariant-loop decreases-loop
+mul-write-line : tie.Need-overflow_mul-row invariant-loop decreases-loop
 mul-write-line c = omega arith
 
-mul-write-line-2 : tie.Need-overflow-mul-write-line-2 invariant-loop decreases-loop
+mul-write-line-2 : tie.Need-overflow_mul-row-in-loop-row invariant-loop decreases-loop
 mul-write-line-2 c = omega arith
 
-mul-write-line-3 : tie.Need-overflow-mul-write-line-3 invariant-loop decreases-loop
+mul-write-line-3 : tie.Need-overflow_mul-row-in-loop-row-2 invariant-loop decreases-loop
 mul-write-line-3 c = omega arith
 
-add-write-line : tie.Need-overflow-add-write-line invariant-loop decreases-loop
+add-write-line : tie.Need-overflow_add-row invariant-loop decreases-loop
 add-write-line c = omega arith
 
-mul-write-line-4 : tie.Need-overflow-mul-write-line-4 invariant-loop decreases-loop
+mul-write-line-4 : tie.Need-offset_bounds-numbers-row invariant-loop decreases-loop
 mul-write-line-4 c = omega arith
 
-sub-write-line : tie.Need-overflow-sub-write-line invariant-loop decreases-loop
+sub-write-line : tie.Need-slice_bounds-write_line-count invariant-loop decreases-loop
 sub-write-line c = omega arith
 
-part-write-line-start : tie.Need-slice-bounds-write-line-start invariant-loop decreases-loop
+part-write-line-start : tie.Need-slice_bounds-write_line-start invariant-loop decreases-loop
 part-write-line-start c = omega arith
 
-part-write-line-end : tie.Need-slice-bounds-write-line-end invariant-loop decreases-loop
+part-write-line-end : tie.Need-slice_bounds-write_line-end invariant-loop decreases-loop
 part-write-line-end c = search rules
 
-write-line-requires : tie.Need-write-line-requires invariant-loop decreases-loop
+write-line-requires : tie.Need-write_line-requires invariant-loop decreases-loop
 write-line-requires c κs =
-    let l = c.before.before.before in
-    let a = l.before.before.before in
-    let part = row_part a.args.numbers.now l.loop.row a.requires.long a.requires.curve (omega arith) in
-    record { long = ap length part ∙ row_length l.loop.row 0 side; room = omega arith }
+    let l = c in
+    let a = l in
+    let part = row_part a.args.numbers.now l.loop-row.row a.requires.long a.requires.curve (omega arith) in
+    record { long = ap length part ∙ row_length l.loop-row.row 0 side; room = omega arith }
 
-add_row : tie.Need-overflow-add-row invariant-loop decreases-loop
+add_row : tie.Need-overflow_add-row-in-loop-row invariant-loop decreases-loop
 add_row c = omega arith
 
-loop-less : tie.Need-loop-smaller invariant-loop decreases-loop
+loop-less : tie.Need-loop-row-smaller invariant-loop decreases-loop
 loop-less c = omega arith
 
-loop-again : tie.Need-loop-preserved invariant-loop decreases-loop
+loop-again : tie.Need-loop-row-preserved invariant-loop decreases-loop
 loop-again c =
-    let w = c.before.before in
-    let l = w.before.before.before.before in
-    let h = l.loop in
+    let w = c in
+    let l = w in
+    let h = l.loop-row in
     let row = h.row in
-    let a = l.before.before.before in
+    let a = l in
     let part = row_part a.args.numbers.now row a.requires.long a.requires.curve (omega arith) in
     let at : row * line_bytes ≡ 0 + line_bytes * row = omega arith in (
       omega arith,
-      w.write-line.auto.0 ∙ h.invariant.1,
+      w.write_line.auto.out ∙ h.invariant.1,
       h.invariant.2
-          ∙ left_next lines_in_turn line_bytes [] 0 (grid_rows 0 side) h.out w.write-line.new.0 row (omega arith) (omega (arith, rows_length 0 side))
+          ∙ left_next lines_in_turn line_bytes [] 0 (grid_rows 0 side) h.out w.write_line.new.out row (omega arith) (omega (arith, rows_length 0 side))
           (line_bytes_lem row (omega arith))
-          (w.write-line.ensures ∙ ap₂ (λ (i : ℕ) (numbers : List ℕ). put h.out i (chart_line numbers)) at (part ∙ sym (line_at row (omega arith)))),
+          (w.write_line.ensures ∙ ap₂ (λ (i : ℕ) (numbers : List ℕ). put h.out i (chart_line numbers)) at (part ∙ sym (line_at row (omega arith)))),
     )
 
-same_length : tie.Need-same-length invariant-loop decreases-loop
-same_length c = c.before.loop.invariant.1
+same_length : tie.Need-shape_of-out invariant-loop decreases-loop
+same_length c = c.loop-row.invariant.1
 
 returns : tie.Need-returns invariant-loop decreases-loop
 returns c =
-    let h = c.before.loop in
-    let a = c.before.before.before.before in
+    let h = c.loop-row in
+    let a = c in
     sym (sym (text_alone a.args.out.now a.requires.room) ∙ h.invariant.2 ∙ left_none lines_in_turn line_bytes 0 (grid_rows 0 side) h.out h.row (omega (arith, rows_length 0 side)))
 
-pub write-lines-spec : {M : Type 1} → statement M
-write-lines-spec =
+pub write_lines_spec : {M : Type 1} → statement M
+write_lines_spec =
     tie.close
     (tie.spec invariant-loop decreases-loop loop-holds mul-write-line mul-write-line-2 mul-write-line-3 add-write-line mul-write-line-4 sub-write-line
     part-write-line-start part-write-line-end write-line-requires add_row loop-less loop-again same_length returns)

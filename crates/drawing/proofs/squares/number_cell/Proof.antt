@@ -13,29 +13,29 @@ use Rattle.drawing.proofs.squares.number_cell.Tie as tie
 narrow-requires : tie.Need-narrow-requires
 narrow-requires c κs = omega (arith, c.requires.numbers, square_above_0 c.args.square.order)
 
-mul-out : tie.Need-overflow-mul-out
+mul-out : tie.Need-overflow_mul-out
 mul-out c = search rules
 
-add-out : tie.Need-overflow-add-out
+add-out : tie.Need-overflow_add-out
 add-out c = search rules
 
-mul-out-2 : tie.Need-overflow-mul-out-2
+mul-out-2 : tie.Need-offset_bounds-out-square
 mul-out-2 c = search rules
 
-element-write-out : tie.Need-element-write-out
+element-write-out : tie.Need-bounds-out-square
 element-write-out c =
-    let b = c.before.before.before in
+    let b = c in
     let p = b.requires in
     omega (arith, p.columns, p.rows, pow_pos b.args.square.order)
 
 returns : tie.Need-returns
 returns c =
-    let b = c.before.before in
-    let a = b.before.args in
+    let b = c in
+    let a = b.args in
     let row = a.square.row in
     let column = a.square.column in
     let place : row * 32 + column ≡ (row + 0) * 32 + (column + 0) = omega arith in
     ap₂ (set a.out.now) place b.narrow.ensures
 
-pub number-cell-spec : {M : Type 1} → statement M
-number-cell-spec = tie.close (tie.spec narrow-requires mul-out add-out mul-out-2 element-write-out returns)
+pub number_cell_spec : {M : Type 1} → statement M
+number_cell_spec = tie.close (tie.spec narrow-requires mul-out add-out mul-out-2 element-write-out returns)

@@ -16,25 +16,25 @@ above k h other = omega arith
 last : (n : ℕ) → 4 ≤ n → n < 5 → n ≡ 4
 last n h l = omega arith
 
-returns : tie.Need-returns
-returns c = side-at c.match.keys1
+returns : tie.Need-returns-in-0
+returns c = side-at c.in-0.is
 
-returns-2 : tie.Need-returns-2
-returns-2 c = side-at c.match.keys2
+returns-2 : tie.Need-returns-in-1
+returns-2 c = side-at c.in-1.is
 
-returns-3 : tie.Need-returns-3
-returns-3 c = side-at c.match.keys3
+returns-3 : tie.Need-returns-in-2
+returns-3 c = side-at c.in-2.is
 
-returns-4 : tie.Need-returns-4
-returns-4 c = side-at c.match.keys4
+returns-4 : tie.Need-returns-in-3
+returns-4 c = side-at c.in-3.is
 
-returns-5 : tie.Need-returns-5
+returns-5 : tie.Need-returns-in_default
 returns-5 c =
-    let r = c.match.rest in
-    let n = c.before.args.order in
+    let r = c.in_default.in_default-own.rest in
+    let n = c.args.order in
     let least : 0 ≤ n = omega arith in
     let four : 4 ≤ n = above 3 (above 2 (above 1 (above 0 least r.0.0.0.1) r.0.0.1) r.0.1) r.1 in
-    side-at (last n four c.before.requires)
+    side-at (last n four c.requires)
 
-pub side-of-spec : {M : Type 1} → statement M
-side-of-spec = tie.close (tie.spec returns returns-2 returns-3 returns-4 returns-5)
+pub side_of_spec : {M : Type 1} → statement M
+side_of_spec = tie.close (tie.spec returns returns-2 returns-3 returns-4 returns-5)

@@ -13,23 +13,23 @@ use Rattle.grid.specs.Units.{speed_limit}
 use Rattle.fleets.proofs.making.speed_of.Statement.{statement}
 use Rattle.fleets.proofs.making.speed_of.Tie as tie
 
-size : (c : tie.After-above) → back w32 c.above.result ≡ pos c.before.args.n
+size : (c : tie.After-above) → back w32 c.above.result ≡ pos c.args.n
 size c = held w32 c.above.result (search rules) ∙ c.above.ensures
 
-difference : (c : tie.After-above) → SFits w32 (pos c.before.args.n -ℤ pos speed_limit)
-difference c = fits (omega (arith, sub (pos c.before.args.n) (pos speed_limit)))
+difference : (c : tie.After-above) → SFits w32 (pos c.args.n -ℤ pos speed_limit)
+difference c = fits (omega (arith, sub (pos c.args.n) (pos speed_limit)))
 
 above-requires : tie.Need-above-requires
 above-requires c κs = search rules
 
-cast-result : tie.Need-overflow-cast-result
+cast-result : tie.Need-overflow_cast-result
 cast-result c = search rules
 
-sub-result : tie.Need-overflow-sub-result
+sub-result : tie.Need-overflow_sub-result
 sub-result c = simp (size c) (difference c)
 
 returns : tie.Need-returns
 returns c = simp (size c, to_z-of_z (difference c))
 
-pub speed-of-spec : {M : Type 1} → statement M
-speed-of-spec = tie.close (tie.spec above-requires cast-result sub-result returns)
+pub speed_of_spec : {M : Type 1} → statement M
+speed_of_spec = tie.close (tie.spec above-requires cast-result sub-result returns)

@@ -7,23 +7,23 @@ use Rattle.fleets.proofs.InputsLaws.{line_long}
 use Rattle.fleets.proofs.reading.read_fleet.Statement.{statement}
 use Rattle.fleets.proofs.reading.read_fleet.Tie as tie
 
-is-line-requires : tie.Need-is-line-requires
+is-line-requires : tie.Need-is_line-requires
 is-line-requires c κs = search rules
 
-read-numbers-requires : tie.Need-read-numbers-requires
+read-numbers-requires : tie.Need-read_numbers-requires
 read-numbers-requires c κs =
-    let l = c.before in
-    line_long l.before.before.args.input.now (sym l.is_line_lem.ensures ∙ c.if1.true)
+    let l = c in
+    line_long l.args.input.now (sym l.is_line.ensures ∙ c.if-is_line.true)
 
-returns : tie.Need-returns
+returns : tie.Need-returns-then-is_line
 unfolding read_fleet
 returns c =
-    let i = c.before in
-    rw (sym i.before.is_line_lem.ensures ∙ i.if1.true) c.read-numbers.ensures
+    let i = c in
+    rw (sym i.is_line.ensures ∙ i.if-is_line.true) c.read_numbers.ensures
 
-returns-2 : tie.Need-returns-2
+returns-2 : tie.Need-returns-else-is_line
 unfolding read_fleet
-returns-2 c = rw (sym c.before.is_line_lem.ensures ∙ c.if1.false)
+returns-2 c = rw (sym c.is_line.ensures ∙ c.if-is_line.false)
 
-pub read-fleet-spec : {M : Type 1} → statement M
-read-fleet-spec = tie.close (tie.spec is-line-requires read-numbers-requires returns returns-2)
+pub read_fleet_spec : {M : Type 1} → statement M
+read_fleet_spec = tie.close (tie.spec is-line-requires read-numbers-requires returns returns-2)

@@ -4,22 +4,22 @@ use borrow.Author.Rules.{rules}
 use Rattle.lines.proofs.reading.ask_of.Statement.{statement}
 use Rattle.lines.proofs.reading.ask_of.Tie as tie
 
-element-copy-out-of : tie.Need-element-copy-out-of
+element-copy-out-of : tie.Need-bounds-n-0
 element-copy-out-of c = search rules
 
-element-copy-out-of-2 : tie.Need-element-copy-out-of-2
+element-copy-out-of-2 : tie.Need-bounds-n-1
 element-copy-out-of-2 c = search rules
 
-element-copy-out-of-3 : tie.Need-element-copy-out-of-3
+element-copy-out-of-3 : tie.Need-bounds-n-2
 element-copy-out-of-3 c = search rules
 
-element-copy-out-of-4 : tie.Need-element-copy-out-of-4
+element-copy-out-of-4 : tie.Need-bounds-n-3
 element-copy-out-of-4 c = search rules
 
-element-copy-out-of-5 : tie.Need-element-copy-out-of-5
+element-copy-out-of-5 : tie.Need-bounds-n-4
 element-copy-out-of-5 c = search rules
 
-element-copy-out-of-6 : tie.Need-element-copy-out-of-6
+element-copy-out-of-6 : tie.Need-bounds-n-5
 element-copy-out-of-6 c = search rules
 
 of-requires : tie.Need-of-requires
@@ -28,5 +28,5 @@ of-requires c κs = search rules
 returns : tie.Need-returns
 returns c = rw c.of.ensures (search rules)
 
-pub ask-of-spec : {M : Type 1} → statement M
-ask-of-spec = tie.close (tie.spec element-copy-out-of element-copy-out-of-2 element-copy-out-of-3 element-copy-out-of-4 element-copy-out-of-5 element-copy-out-of-6 of-requires returns)
+pub ask_of_spec : {M : Type 1} → statement M
+ask_of_spec = tie.close (tie.spec element-copy-out-of element-copy-out-of-2 element-copy-out-of-3 element-copy-out-of-4 element-copy-out-of-5 element-copy-out-of-6 of-requires returns)

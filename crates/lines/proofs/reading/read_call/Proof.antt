@@ -11,34 +11,34 @@ use borrow.Author.Rules.{rules}
 use Rattle.lines.proofs.reading.read_call.Statement.{statement}
 use Rattle.lines.proofs.reading.read_call.Tie as tie
 
-abbrev line : tie.After-count-of → List ℕ
-line c = c.before.before.before.before.args.line.now
+abbrev line : tie.After-count_of → List ℕ
+line c = c.args.line.now
 
-is_read : (c : tie.After-read-numbers) → Reads (line c.before) (count_of (get_or (line c.before) 0 0)) c.read-numbers.result
-is_read c = subst (λ (n : ℕ). Reads (line c.before) n c.read-numbers.result) c.before.count_of.ensures c.read-numbers.ensures
+is_read : (c : tie.After-read_numbers-read) → Reads (line c.before) (count_of (get_or (line c.before) 0 0)) c.read_numbers-read.result
+is_read c = subst (λ (n : ℕ). Reads (line c.before) n c.read_numbers-read.result) c.count_of.ensures c.read_numbers-read.ensures
 
-returns : tie.Need-returns
-returns c = empty_read c.before.before.args.line.now (omega arith)
+returns : tie.Need-returns-then-line-eq0
+returns c = empty_read c.args.line.now (omega arith)
 
-shared-slice-read-letter : tie.Need-shared-slice-read-letter
+shared-slice-read-letter : tie.Need-bounds-line-0
 shared-slice-read-letter c = search rules
 
-count-of-requires : tie.Need-count-of-requires
+count-of-requires : tie.Need-count_of-requires
 count-of-requires c κs = search rules
 
-read-numbers-requires : tie.Need-read-numbers-requires
+read-numbers-requires : tie.Need-read_numbers-read-requires
 read-numbers-requires c κs = omega (arith, c.count_of.ensures, few_follow (get_or (line c) 0 0))
 
-call-of-requires : tie.Need-call-of-requires
+call-of-requires : tie.Need-call_of-requires
 call-of-requires c κs = search rules
 
-returns-2 : tie.Need-returns-2
+returns-2 : tie.Need-returns-then-read
 returns-2 c =
     let r = c.before.before.before.before in
-    c.call-of.ensures ∙ good_read (line r.before) r.read-numbers.result (is_read r) c.before.before.before.if2.true
+    c.call_of.ensures ∙ good_read (line r.before) r.read_numbers-read.result (is_read r) c.if-read.true
 
-returns-3 : tie.Need-returns-3
-returns-3 c = bad_read (line c.before.before) c.before.read-numbers.result (is_read c.before) c.if2.false
+returns-3 : tie.Need-returns-else-read
+returns-3 c = bad_read (line c.before.before) c.read_numbers-read.result (is_read c.before) c.if-read.false
 
-pub read-call-spec : {M : Type 1} → statement M
-read-call-spec = tie.close (tie.spec returns shared-slice-read-letter count-of-requires read-numbers-requires call-of-requires returns-2 returns-3)
+pub read_call_spec : {M : Type 1} → statement M
+read_call_spec = tie.close (tie.spec returns shared-slice-read-letter count-of-requires read-numbers-requires call-of-requires returns-2 returns-3)

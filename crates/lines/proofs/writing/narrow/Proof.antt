@@ -12,11 +12,11 @@ use Rattle.lines.proofs.writing.narrow.Tie as tie
 z-is : (c : tie.Start) → back w64 c.args.z ≡ c.args.z
 z-is c = search held
 
-cast-result : tie.Need-overflow-cast-result
+cast-result : tie.Need-overflow_cast-result
 cast-result c = simp (z-is c) (fits (omega (arith, in_range_lem c.args.z c.requires)))
 
 returns : tie.Need-returns
 returns c = simp (z-is c) (writable_back c.args.z c.requires)
 
-pub narrow-spec : {M : Type 1} → statement M
-narrow-spec = tie.close (tie.spec cast-result returns)
+pub narrow_spec : {M : Type 1} → statement M
+narrow_spec = tie.close (tie.spec cast-result returns)

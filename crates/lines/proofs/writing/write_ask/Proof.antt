@@ -10,64 +10,60 @@ use Rattle.lines.specs.Lines.{line_of, letter_of, when_letter, when_numbers, rec
 use Rattle.lines.proofs.writing.write_ask.Statement.{statement}
 use Rattle.lines.proofs.writing.write_ask.Tie as tie
 
-enum-known-when : tie.Need-enum-known-when
+enum-known-when : tie.Need-enum_known-when
 enum-known-when c = search rules
 
-write-timeslice-requires : tie.Need-write-timeslice-requires
+write-timeslice-requires : tie.Need-write_timeslice-requires
 write-timeslice-requires c κs =
-    let s = c.before.before.before.before in
-    let a = s.before.before.before in
-    let k = c.before.before.before.when.given in
+    let s = c in
+    let a = s in
     let ask = a.args.ask in
-    simp (held w32 ask.method (search rules), held w32 k.0.0 (search rules))
-    (subst (λ (w : When). Room (ask.method ∷ when_numbers w ++ rect_numbers ask.query.rect) a.args.out.now) k.1 a.requires)
+    simp (held w32 ask.method (search rules), held w32 c.in-At.time (search rules))
+    (subst (λ (w : When). Room (ask.method ∷ when_numbers w ++ rect_numbers ask.query.rect) a.args.out.now) c.in-At.is a.requires)
 
-enum-known-when-2 : tie.Need-enum-known-when-2
+enum-known-when-2 : tie.Need-enum_known-when-in-During-1
 enum-known-when-2 c = search rules
 
-write-window-requires : tie.Need-write-window-requires
+write-window-requires : tie.Need-write_window-requires
 write-window-requires c κs =
-    let s = c.before.before.before.before in
-    let a = s.before.before.before in
-    let k = c.before.before.before.when2.given in
+    let s = c in
+    let a = s in
     let ask = a.args.ask in
-    simp (held w32 ask.method (search rules), held w32 k.0.0 (search rules), held w32 k.0.1.0 (search rules))
-    (subst (λ (w : When). Room (ask.method ∷ when_numbers w ++ rect_numbers ask.query.rect) a.args.out.now) k.1 a.requires)
+    simp (held w32 ask.method (search rules), held w32 c.in-During.first (search rules), held w32 c.in-During.last (search rules))
+    (subst (λ (w : When). Room (ask.method ∷ when_numbers w ++ rect_numbers ask.query.rect) a.args.out.now) c.in-During.is a.requires)
 
-same_length : tie.Need-same-length
+same_length : tie.Need-shape_of-out-in-At
 same_length c = search rules
 
-returns : tie.Need-returns
+returns : tie.Need-returns-in-At
 unfolding call_line letter_of numbers_of
 returns c =
-    let m = c.before.before in
-    let t = m.before.before.before.before in
-    let a = t.before.before.before.before.args in
-    let k = t.when.given in
+    let m = c in
+    let t = m in
+    let a = t.args in
     let ask = a.ask in
     subst
-    (λ (w : When). Written (line_of (when_letter w) (ask.method ∷ when_numbers w ++ rect_numbers ask.query.rect)) a.out.now m.write-timeslice.new.1.1.1.0 m.write-timeslice.result)
-    (sym k.1)
-    (simp (held w32 ask.method (search rules), held w32 k.0.0 (search rules)) at m.write-timeslice.ensures)
+    (λ (w : When). Written (line_of (when_letter w) (ask.method ∷ when_numbers w ++ rect_numbers ask.query.rect)) a.out.now m.write_timeslice.new.out m.write_timeslice.result)
+    (sym t.in-At.is)
+    (simp (held w32 ask.method (search rules), held w32 t.in-At.time (search rules)) at m.write_timeslice.ensures)
 
-same-length-2 : tie.Need-same-length-2
+same-length-2 : tie.Need-shape_of-out-in-During
 same-length-2 c = search rules
 
-returns-2 : tie.Need-returns-2
+returns-2 : tie.Need-returns-in-During
 unfolding call_line letter_of numbers_of
 returns-2 c =
-    let m = c.before.before in
-    let t = m.before.before.before.before in
-    let a = t.before.before.before.before.args in
-    let k = t.when2.given in
+    let m = c in
+    let t = m in
+    let a = t.args in
     let ask = a.ask in
     subst
-    (λ (w : When). Written (line_of (when_letter w) (ask.method ∷ when_numbers w ++ rect_numbers ask.query.rect)) a.out.now m.write-window.new.1.1.1.1.0 m.write-window.result)
-    (sym k.1)
-    (simp (held w32 ask.method (search rules), held w32 k.0.0 (search rules), held w32 k.0.1.0 (search rules)) at m.write-window.ensures)
+    (λ (w : When). Written (line_of (when_letter w) (ask.method ∷ when_numbers w ++ rect_numbers ask.query.rect)) a.out.now m.write_window.new.out m.write_window.result)
+    (sym t.in-During.is)
+    (simp (held w32 ask.method (search rules), held w32 t.in-During.first (search rules), held w32 t.in-During.last (search rules)) at m.write_window.ensures)
 
-pub write-ask-spec : {M : Type 1} → statement M
-write-ask-spec =
+pub write_ask_spec : {M : Type 1} → statement M
+write_ask_spec =
     tie.close
     (tie.spec
     enum-known-when
