@@ -79,7 +79,7 @@ module _ (l : Ledger) (w : Words) (left : Left l w) (time : ℤ) where
   -- the records then are those of the reports held then
   records_on : moved_records (time_in w) time (records_in w) ≡ records_of_held (moved_held time l.held)
   records_on =
-      let good = left.well-formed in
+      let good = left.good in
       let match = left.matches in
       ap₂ (λ (z : ℤ) (rs : List Record). moved_records z time rs) match.time_is match.records_are
       ∙ records_moved l.now time l.held good.once (λ h m. (good.holds h m).live)
