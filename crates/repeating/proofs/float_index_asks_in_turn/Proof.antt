@@ -29,16 +29,16 @@ abbrev start : tie.After-stores_in-n → tie.Start
 start c = let k = c.before in k.before
 
 ask-is : (c : tie.After-of)
-    → let a = (start c.before.before).args in c.of.result ≡ ask_of a.method a.asked a.low_x a.low-y a.high-x a.high-y
+    → let a = (start c.before.before).args in c.of.result ≡ ask_of a.method a.asked a.low_x a.low_y a.high_x a.high_y
 ask-is c =
     let a = (start c.before.before).args in
     rw (
       held w32 a.method (search rules),
       held w32 a.asked (search rules),
       held w32 a.low_x (search rules),
-      held w32 a.low-y (search rules),
-      held w32 a.high-x (search rules),
-      held w32 a.high-y (search rules),
+      held w32 a.low_y (search rules),
+      held w32 a.high_x (search rules),
+      held w32 a.high_y (search rules),
     ) at c.of.ensures
 
 returns : tie.Need-returns
@@ -48,9 +48,9 @@ returns c =
     let s = o.before.before in
     let a = (start s.before.before).args in
     let asks = asked_in_turn a.stores.now a.tables.now in
-    let k = ask_of a.method a.asked a.low_x a.low-y a.high-x a.high-y in
+    let k = ask_of a.method a.asked a.low_x a.low_y a.high_x a.high_y in
     subst (λ (n : ℕ). Leaves (asks k a.list.now n a.turns) m.ask_in_turn.result m.ask_in_turn.new.list) s.stores_in-n.ensures
-    (subst (λ (x : Ask). Leaves (asks x a.list.now s.stores_in-n.result a.turns) m.ask_in_turn.result m.ask_in_turn.new.list) (ask-is o)
+    (subst (λ (x : Ask). Leaves (asks x a.list.now s.stores_in-n.result a.turns) m.ask_in_turn.result m.ask_in_turn.new.list) (ask-is o.before.before)
     m.ask_in_turn.ensures)
 
 pub float_index_asks_in_turn_spec : {M : Type 1} → statement M
