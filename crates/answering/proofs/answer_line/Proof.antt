@@ -10,69 +10,69 @@ use borrow.Author.Rules.{rules}
 use Rattle.answering.proofs.answer_line.Statement.{statement}
 use Rattle.answering.proofs.answer_line.Tie as tie
 
-abbrev start : tie.After-answer-said → tie.Start
+abbrev start : tie.After-answer_said-n → tie.Start
 start c = let s = c.before.before.before.before in s.before.before.before.before
 
-abbrev written : tie.After-slice-known4 → tie.After-answer-said
+abbrev written : tie.After-slice_known-4-1 → tie.After-answer_said-n
 written c = let l = c.before.before.before in l.before.before.before
 
-short : (c : tie.After-answer-said) → c.answer-said.result < length (start c).args.out.now
+short : (c : tie.After-answer_said-n) → c.answer_said-n.result < length (start c).args.out.now
 short c =
     let a = start c in
-    let s = c.answer-said in
-    line_short a.args.line.now a.args.store.now a.args.table.now s.new.0 s.new.1.0 a.args.out.now s.new.1.1.1.1.0 s.result
-    a.pre.at_point (omega (arith, a.pre.room)) s.ensures s.auto.1.1.1.1.0
+    let s = c.answer_said-n in
+    line_short a.args.line.now a.args.store.now a.args.table.now s.new.store s.new.table a.args.out.now s.new.out s.result
+    a.requires.at_point (omega (arith, a.requires.room)) s.ensures s.auto.out
 
-sub-last : tie.Need-overflow-sub-last
+sub-last : tie.Need-overflow_sub-last
 sub-last c = search rules
 
-slice-relend-prefix-answer-said : tie.Need-slice-relend-prefix-answer-said
+slice-relend-prefix-answer-said : tie.Need-slice_bounds-answer_said-end
 slice-relend-prefix-answer-said c = search rules
 
-slice-aggregate-answer-said : tie.Need-slice-aggregate-answer-said
+slice-aggregate-answer-said : tie.Need-slice_bounds-answer_said-end-2
 slice-aggregate-answer-said c = sym (length-take-le _ _ (omega arith))
 
-answer-said-requires : tie.Need-answer-said-requires
+answer-said-requires : tie.Need-answer_said-n-requires
 answer-said-requires c κs =
-    let k = c.before.before.before.before in
-    let a = k.before.before.before in
+    let k = c in
+    let a = k in
     let n = length-take-le (length a.args.out.now - 1) a.args.out.now (omega arith) in
     record { at_point = a.requires.at_point; list_long = a.requires.list_long; room = omega (arith, a.requires.room) }
 
-slice-write-out : tie.Need-slice-write-out
+slice-write-out : tie.Need-bounds-out-n
 slice-write-out c =
-    let l = c.before.before.before in
-    let w = l.before.before.before in
+    let l = c in
+    let w = l.before.before.before.before.before.before in
     let out = (start w).args.out.now in
-    let s = w.answer-said in
-    omega (arith, length_front out s.new.1.1.1.1.0 (length out - 1) s.auto.1.1.1.1.0, short w)
+    let s = w.answer_said-n in
+    omega (arith, length_front out s.new.out (length out - 1) s.auto.out, short w)
 
-add-result : tie.Need-overflow-add-result
+add-result : tie.Need-overflow_add-result
 add-result c = let k = short (written c) in search rules
 
-same_length : tie.Need-same-length
+same_length : tie.Need-shape_of-store
 same_length c = search rules
 
-same-length-2 : tie.Need-same-length-2
+same-length-2 : tie.Need-shape_of-table
 same-length-2 c = search rules
 
-same-length-3 : tie.Need-same-length-3
+same-length-3 : tie.Need-shape_of-list
 same-length-3 c = search rules
 
-same-length-4 : tie.Need-same-length-4
+same-length-4 : tie.Need-shape_of-out
 same-length-4 c = search rules
 
 returns : tie.Need-returns
 returns c =
-    let l = c.before.before.before in
-    let w = l.before.before.before in
+    let l = c in
+    let w = l.before.before.before.before.before.before in
     let a = start w in
-    let s = w.answer-said in
-    line_answered a.args.line.now a.args.store.now a.args.table.now s.new.0 s.new.1.0 a.args.out.now s.new.1.1.1.1.0 s.result
-    a.pre.at_point (omega (arith, a.pre.room)) s.ensures s.auto.1.1.1.1.0
+    let s = w.answer_said-n in
+    line_answered a.args.line.now a.args.store.now a.args.table.now s.new.store s.new.table a.args.out.now s.new.out s.result
+    a.requires.at_point (omega (arith, a.requires.room)) s.ensures s.auto.out
 
-pub answer-line-spec : {M : Type 1} → statement M
-answer-line-spec =
+pub answer_line_spec : {M : Type 1} → statement M
+answer_line_spec =
     tie.close
     (tie.spec sub-last slice-relend-prefix-answer-said slice-aggregate-answer-said answer-said-requires slice-write-out add-result same_length
     same-length-2 same-length-3 same-length-4 returns)

@@ -16,49 +16,49 @@ use Rattle.answering.proofs.answer_open.Statement.{statement}
 use Rattle.answering.proofs.answer_open.Tie as tie
 
 -- the entry
-abbrev start : tie.After-open → tie.Start
+abbrev start : tie.After-open-answer → tie.Start
 start c = let s = c.before.before.before in s.before.before
 
 -- the words at entry
 abbrev entry : tie.Start → Words
 entry a = words a.args.store.now a.args.table.now
 
-gives : (c : tie.After-open) → let a = start c in Gives (open_out (entry a) a.args.t) c.«open».result (words c.«open».new.0 c.«open».new.1.0)
-gives c = rw (held w32 (start c).args.t (search rules)) at c.«open».ensures
+gives : (c : tie.After-open-answer) → let a = start c in Gives (open_out (entry a) a.args.t) c.open-answer.result (words c.open-answer.new.store c.open-answer.new.table)
+gives c = rw (held w32 (start c).args.t (search rules)) at c.open-answer.ensures
 
-open-requires : tie.Need-open-requires
+open-requires : tie.Need-open-answer-requires
 open-requires c κs = search rules
 
-slice-aggregate-write-answer : tie.Need-slice-aggregate-write-answer
+slice-aggregate-write-answer : tie.Need-slice_bounds-write_answer-end
 slice-aggregate-write-answer c = search rules
 
-write-answer-requires : tie.Need-write-answer-requires
+write-answer-requires : tie.Need-write_answer-requires
 write-answer-requires c κs =
-    let o = c.before.before.before.before in
+    let o = c.before.before.before in
     let a = start o in
-    answer_room o.«open».result [] a.args.out.now
-    (subst SmallAnswer (sym (gives o).answer_is) (open_small (entry a) a.args.t)) (omega arith) a.pre.room
+    answer_room o.open-answer.result [] a.args.out.now
+    (subst SmallAnswer (sym (gives o).answer_is) (open_small (entry a) a.args.t)) (omega arith) a.requires.room
 
-same_length : tie.Need-same-length
+same_length : tie.Need-shape_of-store
 same_length c = search rules
 
-same-length-2 : tie.Need-same-length-2
+same-length-2 : tie.Need-shape_of-table
 same-length-2 c = search rules
 
-same-length-3 : tie.Need-same-length-3
+same-length-3 : tie.Need-shape_of-out
 same-length-3 c = search rules
 
 returns : tie.Need-returns
 unfolding letter_of
 returns c =
-    let w = c.before.before in
-    let t = w.before.before.before in
-    let o = t.before.before in
+    let w = c in
+    let t = w in
+    let o = t.before.before.before.before.before.before in
     let a = start o in
-    answers_open (entry a) a.args.t a.pre.at_point o.«open».result (words o.«open».new.0 o.«open».new.1.0) (gives o)
-    a.args.out.now w.write-answer.new.1.1.1.0 w.write-answer.result w.write-answer.ensures
+    answers_open (entry a) a.args.t a.requires.at_point o.open-answer.result (words o.open-answer.new.store o.open-answer.new.table) (gives o)
+    a.args.out.now w.write_answer.new.out w.write_answer.result w.write_answer.ensures
 
-pub answer-open-spec : {M : Type 1} → statement M
-answer-open-spec =
+pub answer_open_spec : {M : Type 1} → statement M
+answer_open_spec =
     tie.close
     (tie.spec open-requires slice-aggregate-write-answer write-answer-requires same_length same-length-2 same-length-3 returns)

@@ -19,106 +19,106 @@ use Rattle.answering.proofs.answer_said.Statement.{statement}
 use Rattle.answering.proofs.answer_said.Tie as tie
 
 -- the entry, and the line
-abbrev start : tie.After-read-call → tie.Start
+abbrev start : tie.After-read_call-said → tie.Start
 start c = c.before.before.before.before
 
-abbrev line : tie.After-said2 → List ℕ
-line c = (start c.before.before).args.line.now
+abbrev line : tie.In-Call → List ℕ
+line c = (start c.before).args.line.now
 
-is_call : (c : tie.After-said2) → read_line (line c) ≡ Line.Call c.said2.given.0.0
-is_call c = sym c.before.before.read-call.ensures ∙ c.said2.given.1
+is_call : (c : tie.In-Call) → read_line (line c) ≡ Line.Call c.in-Call.call
+is_call c = sym c.read_call-said.ensures ∙ c.in-Call.is
 
 some-call : (call : Call) → Line.Call call ≡ Line.NoCall → ⊥
 some-call call e = let z : ◌≡◌ {A = ℕ} 0 1 = cc in omega arith
 
-letter : (c : tie.After-said2) → (0 < length (line c)) × (get_or (line c) 0 0 ≡ letter_of (Line.Call c.said2.given.0.0))
+letter : (c : tie.In-Call) → (0 < length (line c)) × (get_or (line c) 0 0 ≡ letter_of (Line.Call c.in-Call.call))
 letter c =
     subst (λ (x : Line). (0 < length (line c)) × (get_or (line c) 0 0 ≡ letter_of x)) (is_call c)
     (letter_read (line c) (λ e. some-call _ (sym (is_call c) ∙ e)))
 
-read-call-requires : tie.Need-read-call-requires
+read-call-requires : tie.Need-read_call-said-requires
 read-call-requires c κs = search rules
 
-enum-known-said : tie.Need-enum-known-said
+enum-known-said : tie.Need-enum_known-said
 enum-known-said c = search rules
 
-answer-open-requires : tie.Need-answer-open-requires
+answer-open-requires : tie.Need-answer_open-requires
 answer-open-requires c κs = search rules
 
-enum-known-said-2 : tie.Need-enum-known-said-2
+enum-known-said-2 : tie.Need-enum_known-said-in-Call-1
 enum-known-said-2 c = search rules
 
-shared-slice-read-answer-call : tie.Need-shared-slice-read-answer-call
+shared-slice-read-answer-call : tie.Need-bounds-line-0
 shared-slice-read-answer-call c =
-    let k = c.before.before.before.before in
-    let s = k.before in
+    let k = c in
+    let s = k.before.before.before.before in
     omega (arith, (letter s).0)
 
-answer-call-requires : tie.Need-answer-call-requires
+answer-call-requires : tie.Need-answer_call-requires
 answer-call-requires c κs =
-    let k = c.before.before.before.before in
-    let s = k.before.before in
-    let a = start s.before.before in
-    record { can_answer = a.pre; letter_is = (letter s).1 }
+    let k = c in
+    let s = k.before.before.before.before.before in
+    let a = start s.before in
+    record { can_answer = a.requires; letter_is = (letter s).1 }
 
-enum_told : tie.Need-enum-told
+enum_told : tie.Need-enum_told-1
 enum_told c = search rules
 
-write-no-call-requires : tie.Need-write-no-call-requires
+write-no-call-requires : tie.Need-write_no_call-requires
 write-no-call-requires c κs = search rules
 
-same_length : tie.Need-same-length
+same_length : tie.Need-shape_of-store-in-Open
 same_length c = search rules
 
-same-length-2 : tie.Need-same-length-2
+same-length-2 : tie.Need-shape_of-table-in-Open
 same-length-2 c = search rules
 
-same-length-3 : tie.Need-same-length-3
+same-length-3 : tie.Need-shape_of-list-in-Open
 same-length-3 c = search rules
 
-same-length-4 : tie.Need-same-length-4
+same-length-4 : tie.Need-shape_of-out-in-Open
 same-length-4 c = search rules
 
-returns : tie.Need-returns
+returns : tie.Need-returns-in-Open
 returns c =
-    let w = c.before.before.before.before in
-    let k = w.before.before.before.before in
-    let s = k.before.before in
-    rw (sym s.before.before.read-call.ensures ∙ s.said.given.1) (simp (held w32 s.said.given.0.0 (search rules)) at w.answer-open.ensures)
+    let w = c in
+    let k = w in
+    let s = k in
+    rw (sym s.read_call-said.ensures ∙ s.in-Open.is) (simp (held w32 s.in-Open.t (search rules)) at w.answer_open.ensures)
 
-same-length-5 : tie.Need-same-length-5
+same-length-5 : tie.Need-shape_of-store-in-Call
 same-length-5 c = search rules
 
-same-length-6 : tie.Need-same-length-6
+same-length-6 : tie.Need-shape_of-table-in-Call
 same-length-6 c = search rules
 
-same-length-7 : tie.Need-same-length-7
+same-length-7 : tie.Need-shape_of-list-in-Call
 same-length-7 c = search rules
 
-same-length-8 : tie.Need-same-length-8
+same-length-8 : tie.Need-shape_of-out-in-Call
 same-length-8 c = search rules
 
-returns-2 : tie.Need-returns-2
+returns-2 : tie.Need-returns-in-Call
 returns-2 c =
-    let l = c.before.before.before in
-    let w = l.before.before.before in
-    let k = w.before.before.before.before in
-    let s = k.before.before.before in
-    rw (is_call s) w.answer-call.ensures
+    let l = c in
+    let w = l in
+    let k = w in
+    let s = k.before.before.before.before.before.before.before.before.before.before.before.before in
+    rw (is_call s) w.answer_call.ensures
 
-same-length-9 : tie.Need-same-length-9
+same-length-9 : tie.Need-shape_of-out-in-NoCall
 same-length-9 c = search rules
 
-returns-3 : tie.Need-returns-3
+returns-3 : tie.Need-returns-in-NoCall
 returns-3 c =
-    let w = c.before.before in
-    let r = w.before.before.before.before in
+    let w = c in
+    let r = w.before.before.before.before.before in
     let a = start r in
-    rw (sym r.read-call.ensures ∙ w.before.before.enum_told.given.1)
-    (answers_no_call a.args.store.now a.args.table.now a.args.out.now w.write-no-call.new.0 w.write-no-call.result w.write-no-call.ensures)
+    rw (sym r.read_call-said.ensures ∙ w.in-NoCall.is)
+    (answers_no_call a.args.store.now a.args.table.now a.args.out.now w.write_no_call.new.out w.write_no_call.result w.write_no_call.ensures)
 
-pub answer-said-spec : {M : Type 1} → statement M
-answer-said-spec =
+pub answer_said_spec : {M : Type 1} → statement M
+answer_said_spec =
     tie.close
     (tie.spec read-call-requires enum-known-said answer-open-requires enum-known-said-2 shared-slice-read-answer-call answer-call-requires enum_told
     write-no-call-requires same_length same-length-2 same-length-3 same-length-4 returns same-length-5 same-length-6 same-length-7 same-length-8

@@ -7,41 +7,41 @@ use borrow.Author.Rules.{rules}
 use Rattle.repeating.proofs.ask_in_turn.Statement.{statement}
 use Rattle.repeating.proofs.ask_in_turn.Tie as tie
 
-returns : tie.Need-returns
+returns : tie.Need-returns-then-turns-gt-TURNS
 returns c =
-    let a = c.before.before.args in
-    too_many a.stores.now a.tables.now a.ask a.list.now a.n a.turns c.if1.true
+    let a = c.args in
+    too_many a.stores.now a.tables.now a.ask a.list.now a.n a.turns c.if-turns-gt-TURNS.true
 
-all-sound-requires : tie.Need-all-sound-requires
+all-sound-requires : tie.Need-all_sound-requires
 all-sound-requires c κs = search rules
 
-returns-2 : tie.Need-returns-2
+returns-2 : tie.Need-returns-then-not-all_sound
 returns-2 c =
-    let s = c.before in
-    let a = s.before.before.before.args in
-    not_sound a.stores.now a.tables.now a.ask a.list.now a.n a.turns s.before.if1.false (sym s.All-sound.ensures ∙ not-true s.All-sound.result c.if2.true)
+    let s = c in
+    let a = s.args in
+    not_sound a.stores.now a.tables.now a.ask a.list.now a.n a.turns s.if-turns-gt-TURNS.false (sym s.all_sound.ensures ∙ c.if-not-all_sound.true)
 
-ask-over-requires : tie.Need-ask-over-requires
+ask-over-requires : tie.Need-ask_over-requires
 ask-over-requires c κs =
-    let d = c.before in
-    let s = d.before in
-    let b = s.before.before.before in
-    record { can = record { there = b.requires; sound = sym s.All-sound.ensures ∙ not-false s.All-sound.result d.if2.false }; few_turns = s.before.if1.false }
+    let d = c in
+    let s = d in
+    let b = s in
+    record { can = record { there = b.requires; sound = sym s.all_sound.ensures ∙ d.if-not-all_sound.false }; few_turns = s.if-turns-gt-TURNS.false }
 
-same_length : tie.Need-same-length
+same_length : tie.Need-shape_of-list
 same_length c = search rules
 
-returns-3 : tie.Need-returns-3
+returns-3 : tie.Need-returns
 returns-3 c =
-    let m = c.before.before in
-    let d = m.before.before in
-    let s = d.before in
-    let a = s.before.before.before.args in
-    let sound = sym s.All-sound.ensures ∙ not-false s.All-sound.result d.if2.false in
-    all_asked a.stores.now a.tables.now a.ask a.list.now a.n a.turns s.before.if1.false sound m.ask-over.result m.ask-over.new.1.1.0
-    m.ask-over.ensures
+    let m = c in
+    let d = m in
+    let s = d in
+    let a = s.args in
+    let sound = sym s.all_sound.ensures ∙ d.if-not-all_sound.false in
+    all_asked a.stores.now a.tables.now a.ask a.list.now a.n a.turns s.if-turns-gt-TURNS.false sound m.ask_over.result m.ask_over.new.list
+    m.ask_over.ensures
 
-pub ask-in-turn-spec : {M : Type 1} → statement M
-ask-in-turn-spec =
+pub ask_in_turn_spec : {M : Type 1} → statement M
+ask_in_turn_spec =
     tie.close
     (tie.spec returns all-sound-requires returns-2 ask-over-requires same_length returns-3)

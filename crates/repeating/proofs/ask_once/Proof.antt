@@ -11,54 +11,54 @@ use borrow.Author.Rules.{rules}
 use Rattle.repeating.proofs.ask_once.Statement.{statement}
 use Rattle.repeating.proofs.ask_once.Tie as tie
 
-mul-a : tie.Need-overflow-mul-a
+mul-a : tie.Need-overflow_mul-a
 mul-a c = search rules
 
-add-b : tie.Need-overflow-add-b
+add-b : tie.Need-overflow_add-b
 add-b c = search rules
 
-mul-c : tie.Need-overflow-mul-c
+mul-c : tie.Need-overflow_mul-c
 mul-c c = search rules
 
-add-d : tie.Need-overflow-add-d
+add-d : tie.Need-overflow_add-d
 add-d c = search rules
 
-mul-ask : tie.Need-overflow-mul-ask
+mul-ask : tie.Need-offset_bounds-stores-a
 mul-ask c = search rules
 
-sub-ask : tie.Need-overflow-sub-ask
+sub-ask : tie.Need-slice_bounds-ask-count
 sub-ask c = search rules
 
-part-ask-start : tie.Need-slice-bounds-ask-start
+part-ask-start : tie.Need-slice_bounds-ask-start
 part-ask-start c = search rules
 
-part-ask-end : tie.Need-slice-bounds-ask-end
+part-ask-end : tie.Need-slice_bounds-ask-end
 part-ask-end c = search rules
 
-mul-ask-2 : tie.Need-overflow-mul-ask-2
+mul-ask-2 : tie.Need-offset_bounds-tables-c
 mul-ask-2 c = search rules
 
-sub-ask-2 : tie.Need-overflow-sub-ask-2
+sub-ask-2 : tie.Need-slice_bounds-ask-count-2
 sub-ask-2 c = search rules
 
-part-ask-start-2 : tie.Need-slice-bounds-ask-start-2
+part-ask-start-2 : tie.Need-slice_bounds-ask-start-2
 part-ask-start-2 c = search rules
 
-part-ask-end-2 : tie.Need-slice-bounds-ask-end-2
+part-ask-end-2 : tie.Need-slice_bounds-ask-end-2
 part-ask-end-2 c = search rules
 
 ask-requires : tie.Need-ask-requires
 ask-requires c κs =
-    let s = c.before.before.before.before in
+    let s = c in
     let k = s.args.k in
     let e : store_words * k + store_words - store_words * k ≡ store_words = omega arith in
     let f : table_words * k + table_words - table_words * k ≡ table_words = omega arith in
     rw (e, f) s.requires.sound
 
-accepted-in-requires : tie.Need-accepted-in-requires
+accepted-in-requires : tie.Need-accepted_in-requires
 accepted-in-requires c κs = search rules
 
-same_length : tie.Need-same-length
+same_length : tie.Need-shape_of-list
 same_length c = search rules
 
 -- the start of the call
@@ -71,11 +71,11 @@ returns c =
     let a = (start m).args in
     let e : store_words * a.k + store_words - store_words * a.k ≡ store_words = omega arith in
     let f : table_words * a.k + table_words - table_words * a.k ≡ table_words = omega arith in
-    once (part_at a.stores.now a.tables.now a.k) a.ask a.list.now m.ask.new.1.1.0 m.ask.result c.accepted-in.result
-    (rw (e, f) at m.ask.ensures) c.accepted-in.ensures
+    once (part_at a.stores.now a.tables.now a.k) a.ask a.list.now m.ask.new.list m.ask.result c.accepted_in.result
+    (rw (e, f) at m.ask.ensures) c.accepted_in.ensures
 
-pub ask-once-spec : {M : Type 1} → statement M
-ask-once-spec =
+pub ask_once_spec : {M : Type 1} → statement M
+ask_once_spec =
     tie.close
     (tie.spec
     mul-a

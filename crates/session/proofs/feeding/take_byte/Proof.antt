@@ -7,55 +7,52 @@ use Rattle.session.proofs.feeding.take_byte.Statement.{statement}
 use Rattle.session.proofs.feeding.take_byte.Tie as tie
 
 -- the entry
-abbrev start : tie.After-end-line → tie.Start
-start c =
-    let k = c.before.before.before.before in
-    let s = k.before.before.before in
-    s.before.before.before
+abbrev start : tie.After-end_line-filled → tie.Start
+start c = c.before.before.before.before.before.before.before.before.before
 
-end-line-requires : tie.Need-end-line-requires
+end-line-requires : tie.Need-end_line-filled-requires
 end-line-requires c κs = search rules
 
-same_length : tie.Need-same-length
+same_length : tie.Need-shape_of-store-then-b-eq10
 same_length c = search rules
 
-same-length-2 : tie.Need-same-length-2
+same-length-2 : tie.Need-shape_of-table-then-b-eq10
 same-length-2 c = search rules
 
-same-length-3 : tie.Need-same-length-3
+same-length-3 : tie.Need-shape_of-list-then-b-eq10
 same-length-3 c = search rules
 
-same-length-4 : tie.Need-same-length-4
+same-length-4 : tie.Need-shape_of-line-then-b-eq10
 same-length-4 c = search rules
 
-same-length-5 : tie.Need-same-length-5
+same-length-5 : tie.Need-shape_of-out-then-b-eq10
 same-length-5 c = search rules
 
-returns : tie.Need-returns
+returns : tie.Need-returns-then-b-eq10
 returns c =
-    let l = c.before.before.before in
-    let w = l.before.before.before in
+    let l = c in
+    let w = l.before.before.before.before.before.before in
     let a = start w in
-    let e = w.end_line in
-    newline_taken a.args.b a.args.line.now a.args.at a.args.store.now a.args.table.now a.args.out.now (omega arith) e.new.0
-    e.new.1.0 e.new.1.1.1.1.0 e.result a.pre.line_long e.ensures
+    let e = w.end_line-filled in
+    newline_taken a.args.b a.args.line.now a.args.at a.args.store.now a.args.table.now a.args.out.now (omega arith) e.new.store
+    e.new.table e.new.out e.result a.requires.line_long e.ensures
 
-hold-requires : tie.Need-hold-requires
+hold-requires : tie.Need-hold-held-requires
 hold-requires c κs = search rules
 
-same-length-6 : tie.Need-same-length-6
+same-length-6 : tie.Need-shape_of-line
 same-length-6 c = search rules
 
-returns-2 : tie.Need-returns-2
+returns-2 : tie.Need-returns
 returns-2 c =
-    let w = c.before.before in
-    let k = w.before.before.before in
-    let a = k.before.before.before in
-    let h = w.hold in
-    other_taken a.args.b a.args.line.now a.args.at a.args.store.now a.args.table.now a.args.out.now (λ e. omega arith) h.new.0
-    h.result a.requires.line_long h.auto.0 (omega (arith, a.requires.room)) h.ensures
+    let w = c in
+    let k = w in
+    let a = k in
+    let h = w.hold-held in
+    other_taken a.args.b a.args.line.now a.args.at a.args.store.now a.args.table.now a.args.out.now (λ e. omega arith) h.new.line
+    h.result a.requires.line_long h.auto.line (omega (arith, a.requires.room)) h.ensures
 
-pub take-byte-spec : {M : Type 1} → statement M
-take-byte-spec =
+pub take_byte_spec : {M : Type 1} → statement M
+take_byte_spec =
     tie.close
     (tie.spec end-line-requires same_length same-length-2 same-length-3 same-length-4 same-length-5 returns hold-requires same-length-6 returns-2)
