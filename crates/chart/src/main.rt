@@ -1,20 +1,26 @@
 // The chart program: document 02, A1. It prints the curve table of the grid, drawn from the four shapes, and reads nothing.
 #![tactic(auto)]
+
 ghost use Rattle.std.specs.Prelude.{◌≡◌};
 ghost use Rattle.drawing.specs.Chart.{chart_text};
 
 use drawing::{CHART_BYTES, write_chart};
-use streams::write_out;
+use streams::{Streams, write_out};
 
 // It is lent the chart's text. That these bytes go to standard output has no definition; the one call below does it.
-fn print(text: &[u8; CHART_BYTES])
+fn print(streams: Streams, text: &[u8; CHART_BYTES])
     requires { text.now ≡ chart_text }
 {
-    write_out(text, b"chart: cannot write standard output");
+    write_out(streams, text, b"chart: cannot write standard output");
 }
 
-fn main() {
+fn main(rt: HostRuntime) {
     let mut text = [0u8; CHART_BYTES];
     write_chart(&mut text);
-    print(&text);
+    let streams = Streams {
+        input: rt.stdin(),
+        output: rt.stdout(),
+        errors: rt.stderr(),
+    };
+    print(streams, &text);
 }

@@ -8,7 +8,7 @@ use borrow.Author.Tests.{ltb-true}
 use lib.IntN.{ℤ, pos, negsuc}
 use lib.Signed.{lt_z}
 use Rattle.io.specs.Counts.{clamp_len}
-use Rattle.libc.specs.Io.{Moved}
+use Rattle.streams.specs.Streams.{Moved}
 use Rattle.ints.proofs.Parts.{true_false}
 
 -- a read that gave more than none of the bytes that it was lent

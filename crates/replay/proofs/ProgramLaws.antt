@@ -22,7 +22,7 @@ use Rattle.ledger.specs.Refusals.{first_to_fail}
 use Rattle.ledger.specs.Machine.{opened}
 use Rattle.ledger.specs.Calls as L
 use Rattle.ledger.specs.declared.Answer.{Answer}
-use Rattle.libc.specs.Io.{Moved}
+use Rattle.streams.specs.Streams.{Moved}
 use Rattle.io.specs.Counts.{clamp_len}
 use Rattle.records.specs.Words.{Words, words}
 use Rattle.engine.specs.Index.{open_out}

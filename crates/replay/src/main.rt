@@ -2,12 +2,13 @@
 // output. What a chunk of input is answered is written before the next chunk is read, so one who types gets an answer to each line, and the memory
 // does not grow with the input. Where a read or a write failed it stops there: a line that is cut off is no line, and gets no answer.
 #![tactic(auto)]
+
 ghost use Rattle.std.specs.Prelude.{length};
-ghost use Rattle.libc.specs.Io.{Moved};
+ghost use Rattle.streams.specs.Streams.{Moved};
 ghost use Rattle.replay.specs.Program.{Lent, LentAll, Ready, Begins, TakesChunk, TakesRead, AnswersRead, Runs, Replays};
 
 use session::feeding::{LINE_BYTES, feed, finish};
-use streams::{read_chunk, write_out};
+use streams::{Streams, read_chunk, write_out};
 
 // What a read came to: how many bytes it gave, how many of them were taken, which is all unless a write failed, and how many bytes of a line are
 // held. There is more to do, or the input has ended, or neither: the read or a write failed.
@@ -38,14 +39,14 @@ pub struct Done {
 }
 
 // A failed read or write is told under the program's name.
-fn read_calls(chunk: &mut [u8]) -> isize
+fn read_calls(streams: Streams, chunk: &mut [u8]) -> isize
     ensures { Moved (length chunk.new) result }
 {
-    read_chunk(chunk, b"replay: cannot read standard input")
+    read_chunk(streams, chunk, b"replay: cannot read standard input")
 }
 
-fn write_answers(out: &[u8]) -> bool {
-    write_out(out, b"replay: cannot write standard output")
+fn write_answers(streams: Streams, out: &[u8]) -> bool {
+    write_out(streams, out, b"replay: cannot write standard output")
 }
 
 // The program opens at 0.
@@ -58,6 +59,7 @@ fn begin(store: &mut [i32], table: &mut [i16])
 
 // Answers the lines that end in a chunk, and writes the answers out.
 fn answer_chunk(
+    streams: Streams,
     store: &mut [i32],
     table: &mut [i16],
     list: &mut [u16],
@@ -76,7 +78,7 @@ fn answer_chunk(
         let fed = feed(store, table, list, line, used, &chunk[from..], &mut out);
         used = fed.held;
         from += fed.taken;
-        if !write_answers(&out[..fed.filled]) {
+        if !write_answers(streams, &out[..fed.filled]) {
             return Turn {
                 got: chunk.len(),
                 taken: from,
@@ -97,6 +99,7 @@ fn answer_chunk(
 
 // Answers what a read gave: nothing where the input has ended, or where the read failed.
 fn answer_read(
+    streams: Streams,
     store: &mut [i32],
     table: &mut [i16],
     list: &mut [u16],
@@ -120,11 +123,12 @@ fn answer_read(
         };
     }
     let n = io::count(got, chunk);
-    answer_chunk(store, table, list, line, held, &chunk[..n])
+    answer_chunk(streams, store, table, list, line, held, &chunk[..n])
 }
 
 // Reads once, and answers what came.
 fn read_once(
+    streams: Streams,
     store: &mut [i32],
     table: &mut [i16],
     list: &mut [u16],
@@ -136,13 +140,14 @@ fn read_once(
     ensures { TakesRead chunk.new store.old table.old store.new table.new
         list.new line.old line.new held result }
 {
-    let got = read_calls(chunk);
-    answer_read(store, table, list, line, held, chunk, got)
+    let got = read_calls(streams, chunk);
+    answer_read(streams, store, table, list, line, held, chunk, got)
 }
 
 // Answers all of the input but a last line that lacks its newline. A proved loop has to end, and nothing says that the input does: each turn that
 // goes on takes a byte or more of those that are left, and no machine reads so many.
 fn run(
+    streams: Streams,
     store: &mut [i32],
     table: &mut [i16],
     list: &mut [u16],
@@ -156,7 +161,7 @@ fn run(
     let mut left = usize::MAX;
     let mut held: usize = 0;
     while chunk.len() < left {
-        let t = read_once(store, table, list, line, held, chunk);
+        let t = read_once(streams, store, table, list, line, held, chunk);
         held = t.held;
         left -= t.taken;
         if !t.more {
@@ -176,6 +181,7 @@ fn run(
 
 // All of it, over buffers of the right lengths. Only at the end of the input is a last line that lacks its newline a line.
 fn replay(
+    streams: Streams,
     store: &mut [i32],
     table: &mut [i16],
     list: &mut [u16],
@@ -187,7 +193,7 @@ fn replay(
     ensures { Replays store.new table.new line.new out.new result }
 {
     begin(store, table);
-    let stop = run(store, table, list, line, chunk);
+    let stop = run(streams, store, table, list, line, chunk);
     if !stop.ended {
         return Done {
             taken: stop.taken,
@@ -197,7 +203,7 @@ fn replay(
         };
     }
     let filled = finish(store, table, list, line, stop.held, out);
-    write_answers(&out[..filled]);
+    write_answers(streams, &out[..filled]);
     Done {
         taken: stop.taken,
         held: 0,
@@ -206,7 +212,12 @@ fn replay(
     }
 }
 
-fn main() {
+fn main(rt: HostRuntime) {
+    let streams = Streams {
+        input: rt.stdin(),
+        output: rt.stdout(),
+        errors: rt.stderr(),
+    };
     let mut store = [0i32; records::STORE_WORDS];
     let mut table = [0i16; rows::TABLE_WORDS];
     let mut list = [0u16; records::CAPACITY];
@@ -214,6 +225,6 @@ fn main() {
     let mut chunk = io::large_buffer();
     let mut out = io::large_buffer();
     replay(
-        &mut store, &mut table, &mut list, &mut line, &mut chunk, &mut out,
+        streams, &mut store, &mut table, &mut list, &mut line, &mut chunk, &mut out,
     );
 }
