@@ -1,6 +1,7 @@
 // One line answered: its call read, made on the index and its answer written. Store and table are known to be at a point of a list of calls, so
 // they are sound and no call tests them.
 #![tactic(auto)]
+
 ghost use Rattle.std.specs.Prelude.{◌≡◌};
 ghost use Rattle.lines.specs.declared.Line.TheVariants as Lines;
 ghost use Rattle.lines.specs.Reading.{read_line};

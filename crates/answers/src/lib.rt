@@ -1,5 +1,6 @@
 // An answer line written in front of some bytes whose rest is kept: document 01, "Lines". A line here has no newline.
 #![tactic(auto)]
+
 ghost use Rattle.std.specs.Prelude.{◌≤◌, [], ◌∷◌, length, pos};
 ghost use Rattle.ledger.specs.declared.Answer.TheVariants as Answers;
 ghost use Rattle.lines.specs.Lines.{line_length, line_of, Room, Written};

@@ -1,6 +1,7 @@
 // The work of an ask over buffers known to be sound: in each live phase cells are chosen and read, and the readings are summed. The answer is built
 // from that sum.
 #![tactic(auto)]
+
 ghost use Rattle.std.specs.Prelude.{◌≡◌, true, pos};
 ghost use Rattle.ints.specs.Whole.{up, between};
 ghost use Rattle.rows.specs.Phases.{slot_of};

@@ -1,6 +1,7 @@
 // The index for programs in C and Rust: the seven calls over pointers and lengths, with any numbers and any buffers, and the soundness test alone.
 // Each call gives back the number, the value and the counts that the documents have for its answer, and leaves the words that its definition says.
 #![tactic(auto)]
+
 ghost use Rattle.std.specs.Prelude.{◌≡◌};
 ghost use Rattle.records.specs.Words.{words, are_sound};
 ghost use Rattle.ledger.specs.declared.Change.TheVariants as Change;

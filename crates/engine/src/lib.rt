@@ -1,6 +1,7 @@
 // The index: its public calls over lent buffers, with any numbers and any buffers. Each answers and leaves what its definition says. All but open
 // test the buffers and then make the call of their name over sound ones; add, report and drop are changes.
 #![tactic(auto)]
+
 ghost use Rattle.records.specs.Words.{words};
 ghost use Rattle.words.specs.Words.{opened};
 ghost use Rattle.words.specs.Needs.{RightLengths};

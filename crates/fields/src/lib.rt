@@ -1,6 +1,7 @@
 // One number of a line, right-justified in its columns: document 01, "Lines". Read, written, and several written one after the other,
 // these in any number of columns too.
 #![tactic(auto)]
+
 ghost use Rattle.std.specs.Prelude.{◌≡◌, ◌≤◌, pos};
 ghost use Rattle.fields.specs.Fields.{greatest};
 

@@ -1,6 +1,7 @@
 // The values of the grid (cells, ranges, rectangles, queries, reports), the limits of document 01, and when a query lists a report.
 // Positions are centimetres, speeds centimetres per second, times seconds.
 #![tactic(auto)]
+
 ghost use Rattle.std.specs.Prelude.{◌≡◌, ◌-ℤ◌};
 ghost use Rattle.grid.specs.Places.{position_after};
 ghost use Rattle.grid.specs.Moments.{passage_of, inside_during};

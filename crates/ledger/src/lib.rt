@@ -1,5 +1,6 @@
 // The calls after open and what a call gives back, in the index and in the plain ledger alike. The ledger itself is definitions only: see specs/.
 #![tactic(auto)]
+
 ghost use Rattle.std.specs.Prelude.{◌≡◌};
 ghost use Rattle.ledger.specs.Answers.{refusal_number, refusal_value};
 ghost use Rattle.ledger.specs.Refusals.{time_of, id_of};

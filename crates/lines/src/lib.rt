@@ -1,5 +1,6 @@
 // The call lines of the replay program: document 01, "Lines". A line here has no newline.
 #![tactic(auto)]
+
 use fields::WIDTH;
 use ledger::Call;
 

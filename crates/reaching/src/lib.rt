@@ -1,5 +1,6 @@
 // What a query, seen from a phase, and a cell reach at the speeds of a row. Positions are centimetres, speeds centimetres per second.
 #![tactic(auto)]
+
 ghost use Rattle.std.specs.Prelude.{◌≡◌, ◌&&◌, ◌<◌, ◌^◌, pos, ◌-ℤ◌, ◌*ℤ◌};
 ghost use Rattle.grid.specs.Units.{side};
 ghost use Rattle.grid.specs.Places.{cell_span, not_below, not_above};

@@ -1,5 +1,6 @@
 // The record store of document 01, "Store and table": signed 32-bit words in records of 7, sorted by key, then id.
 #![tactic(auto)]
+
 ghost use Rattle.std.specs.Prelude.{◌≡◌, ◌<◌, ◌≤◌, ◌+◌, ◌^◌, nat_abs, length};
 ghost use Rattle.records.specs.Records.{record_from, now_of, held_of};
 

@@ -1,6 +1,7 @@
 // Asks over words known to be sound, on several stores in turn: for the benchmark alone, which takes from it the time of an ask without the soundness
 // test. No product call. What is promised: how many asks are accepted and the list at exit are those of the definition, for any numbers and buffers.
 #![tactic(auto)]
+
 ghost use Rattle.std.specs.Prelude.{◌≡◌};
 ghost use Rattle.records.specs.Words.{are_sound};
 ghost use Rattle.ledger.specs.Calls.{ask_of};

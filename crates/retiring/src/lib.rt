@@ -1,6 +1,7 @@
 // Floats that retire at a clock step: document 02, A7. How many stay and whether a float is among them is found without writing; then the records of those
 // that go are taken out. The rows of a float that goes stay as they are.
 #![tactic(auto)]
+
 ghost use Rattle.std.specs.Prelude.{◌≡◌, not, length};
 ghost use Rattle.grid.specs.Reports.{is_silent, stays_at};
 ghost use Rattle.records.specs.Records.{now_of, records_of, store_of};

@@ -1,5 +1,6 @@
 // Speed rows and the table that holds them: document 01, "Phases and speed rows". Speeds are centimetres per second, times seconds.
 #![tactic(auto)]
+
 ghost use Rattle.std.specs.Prelude.{◌≡◌, ◌<◌, ◌+◌, length};
 ghost use Rattle.ints.specs.Whole.{min_z, max_z, eq_z, between};
 ghost use Rattle.rows.specs.Row.{empty_row, joined, widened, holds, same_row, is_empty, valid_axis, valid_row};

@@ -1,6 +1,7 @@
 // The changes of the lent words, store and table together: opened, stepped to a time, a report placed, a float taken out. What each asks of the
 // words is in specs/Needs.antt, what it makes of them in specs/Words.antt.
 #![tactic(auto)]
+
 ghost use Rattle.std.specs.Prelude.{◌≡◌};
 ghost use Rattle.records.specs.Words.{words};
 ghost use Rattle.words.specs.Words.{opened, moved_on, stepped, placed, taken_out};

@@ -21,7 +21,6 @@ enum-known-when c = search rules
 
 is-inside-at-requires : tie.Need-is_inside_at-requires
 is-inside-at-requires c κs =
-    
     let pre = c.requires in
     simp (held w32 c.in-At.time (search rules)) (small_at pre.figures (subst SmallTimes c.in-At.is pre.small_query.times))
 
@@ -63,7 +62,6 @@ is-inside-during-requires c κs =
 returns : tie.Need-returns-in-At
 returns c =
     let m = c.before.before in
-    
     let a = m.args in
     tested₁ w32 (λ (t : ℤ). inside_at a.query.rect t a.self) c.is_inside_at.result c.in-At.time c.is_inside_at.ensures (search rules)
     ∙ sym (ap (λ (w : When). inside_when a.query.rect w a.self) c.in-At.is)
