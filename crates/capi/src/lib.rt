@@ -67,24 +67,21 @@ fn report_of(id: i32, t: i32, x: i32, y: i32, vx: i32, vy: i32) -> Report
 }
 
 // Opens the index at time t, whatever the buffers held.
-#[unsafe(no_mangle)]
-pub extern "C" fn float_index_open(store: &mut [i32], table: &mut [i16], t: i32) -> Reply
+pub fn float_index_open(store: &mut [i32], table: &mut [i16], t: i32) -> Reply
     ensures { Replies (open_out (words store.old table.old) t) result (words store.new table.new) }
 {
     reply_of(engine::open(store, table, t))
 }
 
 // The clock goes to time t.
-#[unsafe(no_mangle)]
-pub extern "C" fn float_index_clock(store: &mut [i32], table: &mut [i16], t: i32) -> Reply
+pub fn float_index_clock(store: &mut [i32], table: &mut [i16], t: i32) -> Reply
     ensures { Replies (clock_out (words store.old table.old) t) result (words store.new table.new) }
 {
     reply_of(engine::clock(store, table, t))
 }
 
 // A float that was not held sends its first report.
-#[unsafe(no_mangle)]
-pub extern "C" fn float_index_add(
+pub fn float_index_add(
     store: &mut [i32],
     table: &mut [i16],
     id: i32,
@@ -100,8 +97,7 @@ pub extern "C" fn float_index_add(
 }
 
 // A held float sends a new report.
-#[unsafe(no_mangle)]
-pub extern "C" fn float_index_report(
+pub fn float_index_report(
     store: &mut [i32],
     table: &mut [i16],
     id: i32,
@@ -117,8 +113,7 @@ pub extern "C" fn float_index_report(
 }
 
 // A held float is taken out at time t.
-#[unsafe(no_mangle)]
-pub extern "C" fn float_index_drop(store: &mut [i32], table: &mut [i16], id: i32, t: i32) -> Reply
+pub fn float_index_drop(store: &mut [i32], table: &mut [i16], id: i32, t: i32) -> Reply
     ensures { Replies (change_out (words store.old table.old) (Change.Drop id t)) result (words store.new table.new) }
 {
     reply_of(engine::drop(store, table, id, t))
@@ -126,8 +121,7 @@ pub extern "C" fn float_index_drop(store: &mut [i32], table: &mut [i16], id: i32
 
 // The floats predicted inside a rectangle at the asked time, none before its report, by a method's choice of cells. The ids are written in front of
 // the list.
-#[unsafe(no_mangle)]
-pub extern "C" fn float_index_ask(
+pub fn float_index_ask(
     store: &[i32],
     table: &[i16],
     list: &mut [u16],
@@ -149,8 +143,7 @@ pub extern "C" fn float_index_ask(
 }
 
 // The same at some moment from a first time to a last one, fractions of a second included, and for each float from its report on.
-#[unsafe(no_mangle)]
-pub extern "C" fn float_index_ask_window(
+pub fn float_index_ask_window(
     store: &[i32],
     table: &[i16],
     list: &mut [u16],
@@ -173,8 +166,7 @@ pub extern "C" fn float_index_ask_window(
 }
 
 // Whether a store and a table have their lengths and are sound, so that no call refuses them with 1 or 2.
-#[unsafe(no_mangle)]
-pub extern "C" fn float_index_is_sound(store: &[i32], table: &[i16]) -> bool
+pub fn float_index_is_sound(store: &[i32], table: &[i16]) -> bool
     ensures { result ≡ are_sound (words store.now table.now) }
 {
     records::soundness::is_sound(store, table)

@@ -135,8 +135,7 @@ fn ask_in_turn(
 
 // The ask on each of the stores in turn, and that so many times. The stores stand one after the other, and so do their tables. Nothing is done and 0
 // given back where the two lengths do not fit each other, for more than 64 stores or 1,000,000 turns, or where a store is not sound.
-#[unsafe(no_mangle)]
-pub extern "C" fn float_index_asks_in_turn(
+pub fn float_index_asks_in_turn(
     stores: &[i32],
     tables: &[i16],
     list: &mut [u16],

@@ -14,27 +14,27 @@ use Rattle.capi.proofs.RepliesLaws.{replied}
 use Rattle.capi.proofs.float_index_add.Statement.{statement}
 use Rattle.capi.proofs.float_index_add.Tie as tie
 
-report-of-requires : tie.Need-report-of-requires
+report-of-requires : tie.Need-report_of-requires
 report-of-requires c κs = search rules
 
 add-requires : tie.Need-add-requires
 add-requires c κs = search rules
 
-reply-of-requires : tie.Need-reply-of-requires
+reply-of-requires : tie.Need-reply_of-requires
 reply-of-requires c κs = search rules
 
-same_length : tie.Need-same-length
+same_length : tie.Need-shape_of-store
 same_length c = search rules
 
-same-length-2 : tie.Need-same-length-2
+same-length-2 : tie.Need-shape_of-table
 same-length-2 c = search rules
 
 returns : tie.Need-returns
 returns c =
-    let k = c.before.before.before in
-    let o = k.before in
-    let a = o.before.before.before.args in
-    let e : o.report-of.result
+    let k = c in
+    let o = k in
+    let a = o.args in
+    let e : o.report_of.result
     ≡ report_of a.id a.t a.x a.y a.vx a.vy = rw (
       held w32 a.id (search rules),
       held w32 a.t (search rules),
@@ -43,11 +43,11 @@ returns c =
       held w32 a.vx (search rules),
       held w32
           a.vy (search rules),
-    ) at o.report-of.ensures in
-    replied (change_out (words a.store.now a.table.now) (Change.Add (report_of a.id a.t a.x a.y a.vx a.vy))) k.add.result c.reply-of.result
-    (words k.add.new.0 k.add.new.1.0)
-    (subst (λ (r : Report). Gives (change_out (words a.store.now a.table.now) (Change.Add r)) k.add.result (words k.add.new.0 k.add.new.1.0)) e k.add.ensures)
-    c.reply-of.ensures
+    ) at o.report_of.ensures in
+    replied (change_out (words a.store.now a.table.now) (Change.Add (report_of a.id a.t a.x a.y a.vx a.vy))) k.add.result c.reply_of.result
+    (words k.add.new.store k.add.new.table)
+    (subst (λ (r : Report). Gives (change_out (words a.store.now a.table.now) (Change.Add r)) k.add.result (words k.add.new.store k.add.new.table)) e k.add.ensures)
+    c.reply_of.ensures
 
-pub float-index-add-spec : {M : Type 1} → statement M
-float-index-add-spec = tie.close (tie.spec report-of-requires add-requires reply-of-requires same_length same-length-2 returns)
+pub float_index_add_spec : {M : Type 1} → statement M
+float_index_add_spec = tie.close (tie.spec report-of-requires add-requires reply-of-requires same_length same-length-2 returns)

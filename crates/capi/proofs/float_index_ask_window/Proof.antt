@@ -19,38 +19,38 @@ window-requires c κs = search rules
 ask-requires : tie.Need-ask-requires
 ask-requires c κs = search rules
 
-reply-of-requires : tie.Need-reply-of-requires
+reply-of-requires : tie.Need-reply_of-requires
 reply-of-requires c κs = search rules
 
-same_length : tie.Need-same-length
+same_length : tie.Need-shape_of-list
 same_length c = search rules
 
 ask-is : (c : tie.After-window)
-    → c.window.result ≡ window_of c.before.before.before.args.method c.before.before.before.args.first c.before.before.before.args.last
-    c.before.before.before.args.low_x c.before.before.before.args.low-y c.before.before.before.args.high-x
-    c.before.before.before.args.high-y
+    → c.window.result ≡ window_of c.args.method c.args.first c.args.last
+    c.args.low_x c.args.low_y c.args.high_x
+    c.args.high_y
 ask-is c =
-    let a = c.before.before.before.args in
+    let a = c.args in
     rw (
       held w32 a.method (search rules),
       held w32 a.first (search rules),
       held w32 a.last (search rules),
       held w32 a.low_x (search rules),
-      held w32 a.low-y (search rules),
-      held w32 a.high-x (search rules),
-      held w32 a.high-y (search rules),
+      held w32 a.low_y (search rules),
+      held w32 a.high_x (search rules),
+      held w32 a.high_y (search rules),
     ) at c.window.ensures
 
 returns : tie.Need-returns
 returns c =
-    let k = c.before.before.before in
-    let o = k.before in
-    let a = o.before.before.before.args in
+    let k = c in
+    let o = k in
+    let a = o.args in
     let w = words a.store.now a.table.now in
-    let ask = window_of a.method a.first a.last a.low_x a.low-y a.high-x a.high-y in
-    replied_list (ask_out w ask a.list.now) k.ask.result c.reply-of.result k.ask.new.1.1.0
-    (subst (λ (x : Ask). GivesList (ask_out w x a.list.now) k.ask.result k.ask.new.1.1.0) (ask-is o) k.ask.ensures)
-    c.reply-of.ensures
+    let ask = window_of a.method a.first a.last a.low_x a.low_y a.high_x a.high_y in
+    replied_list (ask_out w ask a.list.now) k.ask.result c.reply_of.result k.ask.new.list
+    (subst (λ (x : Ask). GivesList (ask_out w x a.list.now) k.ask.result k.ask.new.list) (ask-is c.before.before.before.before) k.ask.ensures)
+    c.reply_of.ensures
 
-pub float-index-ask-window-spec : {M : Type 1} → statement M
-float-index-ask-window-spec = tie.close (tie.spec window-requires ask-requires reply-of-requires same_length returns)
+pub float_index_ask_window_spec : {M : Type 1} → statement M
+float_index_ask_window_spec = tie.close (tie.spec window-requires ask-requires reply-of-requires same_length returns)

@@ -12,21 +12,21 @@ use Rattle.capi.proofs.float_index_clock.Tie as tie
 clock-requires : tie.Need-clock-requires
 clock-requires c κs = search rules
 
-reply-of-requires : tie.Need-reply-of-requires
+reply-of-requires : tie.Need-reply_of-requires
 reply-of-requires c κs = search rules
 
-same_length : tie.Need-same-length
+same_length : tie.Need-shape_of-store
 same_length c = search rules
 
-same-length-2 : tie.Need-same-length-2
+same-length-2 : tie.Need-shape_of-table
 same-length-2 c = search rules
 
 returns : tie.Need-returns
 returns c =
-    let k = c.before.before.before in
-    let a = k.before.before.before.args in
-    replied (clock_out (words a.store.now a.table.now) a.t) k.clock.result c.reply-of.result (words k.clock.new.0 k.clock.new.1.0)
-    (rw (held w32 a.t (search rules)) at k.clock.ensures) c.reply-of.ensures
+    let k = c in
+    let a = k.args in
+    replied (clock_out (words a.store.now a.table.now) a.t) k.clock.result c.reply_of.result (words k.clock.new.store k.clock.new.table)
+    (rw (held w32 a.t (search rules)) at k.clock.ensures) c.reply_of.ensures
 
-pub float-index-clock-spec : {M : Type 1} → statement M
-float-index-clock-spec = tie.close (tie.spec clock-requires reply-of-requires same_length same-length-2 returns)
+pub float_index_clock_spec : {M : Type 1} → statement M
+float_index_clock_spec = tie.close (tie.spec clock-requires reply-of-requires same_length same-length-2 returns)

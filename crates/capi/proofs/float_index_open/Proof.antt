@@ -12,21 +12,21 @@ use Rattle.capi.proofs.float_index_open.Tie as tie
 open-requires : tie.Need-open-requires
 open-requires c κs = search rules
 
-reply-of-requires : tie.Need-reply-of-requires
+reply-of-requires : tie.Need-reply_of-requires
 reply-of-requires c κs = search rules
 
-same_length : tie.Need-same-length
+same_length : tie.Need-shape_of-store
 same_length c = search rules
 
-same-length-2 : tie.Need-same-length-2
+same-length-2 : tie.Need-shape_of-table
 same-length-2 c = search rules
 
 returns : tie.Need-returns
 returns c =
     let k = c.before.before.before in
-    let a = k.before.before.before.args in
-    replied (open_out (words a.store.now a.table.now) a.t) k.«open».result c.reply-of.result (words k.«open».new.0 k.«open».new.1.0)
-    (rw (held w32 a.t (search rules)) at k.«open».ensures) c.reply-of.ensures
+    let a = k.args in
+    replied (open_out (words a.store.now a.table.now) a.t) k.«open».result c.reply_of.result (words k.«open».new.store k.«open».new.table)
+    (rw (held w32 a.t (search rules)) at k.«open».ensures) c.reply_of.ensures
 
-pub float-index-open-spec : {M : Type 1} → statement M
-float-index-open-spec = tie.close (tie.spec open-requires reply-of-requires same_length same-length-2 returns)
+pub float_index_open_spec : {M : Type 1} → statement M
+float_index_open_spec = tie.close (tie.spec open-requires reply-of-requires same_length same-length-2 returns)

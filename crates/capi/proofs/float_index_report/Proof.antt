@@ -14,27 +14,27 @@ use Rattle.capi.proofs.RepliesLaws.{replied}
 use Rattle.capi.proofs.float_index_report.Statement.{statement}
 use Rattle.capi.proofs.float_index_report.Tie as tie
 
-report-of-requires : tie.Need-report-of-requires
+report-of-requires : tie.Need-report_of-requires
 report-of-requires c κs = search rules
 
 report-requires : tie.Need-report-requires
 report-requires c κs = search rules
 
-reply-of-requires : tie.Need-reply-of-requires
+reply-of-requires : tie.Need-reply_of-requires
 reply-of-requires c κs = search rules
 
-same_length : tie.Need-same-length
+same_length : tie.Need-shape_of-store
 same_length c = search rules
 
-same-length-2 : tie.Need-same-length-2
+same-length-2 : tie.Need-shape_of-table
 same-length-2 c = search rules
 
 returns : tie.Need-returns
 returns c =
-    let k = c.before.before.before in
-    let o = k.before in
-    let a = o.before.before.before.args in
-    let e : o.report-of.result
+    let k = c in
+    let o = k in
+    let a = o.args in
+    let e : o.report_of.result
     ≡ report_of a.id a.t a.x a.y a.vx a.vy = rw (
       held w32 a.id (search rules),
       held w32 a.t (search rules),
@@ -43,12 +43,12 @@ returns c =
       held w32 a.vx (search rules),
       held w32
           a.vy (search rules),
-    ) at o.report-of.ensures in
-    replied (change_out (words a.store.now a.table.now) (Change.Report (report_of a.id a.t a.x a.y a.vx a.vy))) k.report.result c.reply-of.result
-    (words k.report.new.0 k.report.new.1.0)
-    (subst (λ (r : Report). Gives (change_out (words a.store.now a.table.now) (Change.Report r)) k.report.result (words k.report.new.0 k.report.new.1.0)) e
+    ) at o.report_of.ensures in
+    replied (change_out (words a.store.now a.table.now) (Change.Report (report_of a.id a.t a.x a.y a.vx a.vy))) k.report.result c.reply_of.result
+    (words k.report.new.store k.report.new.table)
+    (subst (λ (r : Report). Gives (change_out (words a.store.now a.table.now) (Change.Report r)) k.report.result (words k.report.new.store k.report.new.table)) e
     k.report.ensures)
-    c.reply-of.ensures
+    c.reply_of.ensures
 
-pub float-index-report-spec : {M : Type 1} → statement M
-float-index-report-spec = tie.close (tie.spec report-of-requires report-requires reply-of-requires same_length same-length-2 returns)
+pub float_index_report_spec : {M : Type 1} → statement M
+float_index_report_spec = tie.close (tie.spec report-of-requires report-requires reply-of-requires same_length same-length-2 returns)
