@@ -27,7 +27,8 @@ entry a = words a.args.store.now a.args.table.now
 call-requires : tie.Need-call-answer-requires
 call-requires c κs =
     let s = c in
-    let a = s.before.before.before.before.before in
+    let way = s.before.before.before.before in
+    let a = way.before in
     point_sound (entry a) a.requires.can_answer.at_point.ledger a.requires.can_answer.at_point.point
 
 few : (c : tie.After-call-answer) → ids_told c.call-answer.result ≤ length (start c).args.list.now

@@ -42,7 +42,8 @@ answer-said-requires c κs =
 slice-write-out : tie.Need-bounds-out-n
 slice-write-out c =
     let l = c in
-    let w = l.before.before.before.before.before.before in
+    let way = l.before.before.before.before in
+    let w = way.before.before in
     let out = (start w).args.out.now in
     let s = w.answer_said-n in
     omega (arith, length_front out s.new.out (length out - 1) s.auto.out, short w)
@@ -65,7 +66,8 @@ same-length-4 c = search rules
 returns : tie.Need-returns
 returns c =
     let l = c in
-    let w = l.before.before.before.before.before.before in
+    let way = l.before.before.before.before in
+    let w = way.before.before in
     let a = start w in
     let s = w.answer_said-n in
     line_answered a.args.line.now a.args.store.now a.args.table.now s.new.store s.new.table a.args.out.now s.new.out s.result

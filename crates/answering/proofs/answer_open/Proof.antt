@@ -53,7 +53,8 @@ unfolding letter_of
 returns c =
     let w = c in
     let t = w in
-    let o = t.before.before.before.before.before.before in
+    let way = t.before.before.before.before in
+    let o = way.before.before in
     let a = start o in
     answers_open (entry a) a.args.t a.requires.at_point o.open-answer.result (words o.open-answer.new.store o.open-answer.new.table) (gives o)
     a.args.out.now w.write_answer.new.out w.write_answer.result w.write_answer.ensures

@@ -57,7 +57,8 @@ shared-slice-read-answer-call c =
 answer-call-requires : tie.Need-answer_call-requires
 answer-call-requires c κs =
     let k = c in
-    let s = k.before.before.before.before.before in
+    let way = k.before.before.before.before in
+    let s = way.before in
     let a = start s.before in
     record { can_answer = a.requires; letter_is = (letter s).1 }
 
@@ -103,7 +104,9 @@ returns-2 c =
     let l = c in
     let w = l in
     let k = w in
-    let s = k.before.before.before.before.before.before.before.before.before.before.before.before in
+    let way = k.before.before.before.before in
+    let way2 = way.before.before.before.before in
+    let s = way2.before.before.before.before in
     rw (is_call s) w.answer_call.ensures
 
 same-length-9 : tie.Need-shape_of-out-in-NoCall
@@ -112,7 +115,8 @@ same-length-9 c = search rules
 returns-3 : tie.Need-returns-in-NoCall
 returns-3 c =
     let w = c in
-    let r = w.before.before.before.before.before in
+    let way = w.before.before.before.before in
+    let r = way.before in
     let a = start r in
     rw (sym r.read_call-said.ensures ∙ w.in-NoCall.is)
     (answers_no_call a.args.store.now a.args.table.now a.args.out.now w.write_no_call.new.out w.write_no_call.result w.write_no_call.ensures)

@@ -99,7 +99,8 @@ same_length c = search rules
 returns : tie.Need-returns
 returns c =
     let i = c in
-    let w = i.before.before.before.before.before.before in
+    let way = i.before.before.before.before in
+    let w = way.before.before in
     let a = entry w.before.before.before in
     let ids = a.args.ids.now in
     line_more a.args.letter (map pos (numbers a)) (map pos ids) a.args.out.now w.write_line-end.new.out i.write_ids.new.out

@@ -41,7 +41,8 @@ same_length c = search rules
 returns : tie.Need-returns
 returns c =
     let w = c in
-    let v = w.before.before.before.before.before in
+    let way = w.before.before.before.before in
+    let v = way.before in
     simp (number_is v.before, value_is v) at w.write_line.ensures
 
 pub write_start_spec : {M : Type 1} → statement M

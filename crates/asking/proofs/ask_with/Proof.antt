@@ -69,7 +69,8 @@ returns-2 : tie.Need-returns
 returns-2 c =
     let r = c in
     let e = r in
-    let n = e.before.before.before.before.before.before in
+    let way = e.before.before.before.before in
+    let n = way.before.before in
     let i = asked n in
     let a = entry i in
     rw c.answer.ensures

@@ -9,7 +9,7 @@ use Rattle.fleet.proofs.main.Tie as tie
 
 -- the reading, from what comes after
 abbrev reading : tie.After-input-4-1 → tie.After-read_input-read
-reading c = c.before.before.before.before.before.before
+reading c = let way = c.before.before.before.before in way.before.before
 
 stdin-requires : tie.Need-stdin-requires
 stdin-requires c κs = search rules

@@ -25,10 +25,10 @@ decreases-loop streams store₀ table₀ list₀ line₀ held chunk out₀ used�
 
 -- the turn of the loop that `feed` is called in, and the call of it, from what comes after
 abbrev turn : tie.After-out-1 invariant-loop decreases-loop → tie.In-loop-from invariant-loop decreases-loop
-turn c = c.before.before.before.before.before.before
+turn c = let way = c.before.before.before.before in way.before.before
 
 abbrev fed : tie.After-struct_known-1 invariant-loop decreases-loop → tie.After-feed-fed invariant-loop decreases-loop
-fed c = c.before.before.before.before.before.before.before.before
+fed c = let way = c.before.before.before.before in way.before.before.before.before
 
 large-buffer-requires : tie.Need-large_buffer-out-requires invariant-loop decreases-loop
 large-buffer-requires c κs = search rules
@@ -102,7 +102,8 @@ further k =
 
 add-from : tie.Need-overflow_add-from invariant-loop decreases-loop
 add-from c =
-    let k = c.before.before.before.before.before.before.before.before in
+    let way = c.before.before.before.before in
+    let k = way.before.before.before.before in
     let w = (further k).within in
     let g = (start k).well_formed.1.1.1.1.1.1.0 in
     omega (arith, g, w)

@@ -13,13 +13,13 @@ use Rattle.replay.proofs.answer_read.Tie as tie
 
 -- the calls, and the entry, from what comes after
 abbrev answered : tie.After-slice_known-4-1 → tie.After-answer_chunk
-answered c = c.before.before.before.before.before.before
+answered c = let way = c.before.before.before.before in way.before.before
 
 abbrev counting : tie.After-answer_chunk → tie.After-count-n
-counting k = k.before.before.before.before.before
+counting k = let way = k.before.before.before.before in way.before
 
 abbrev start : tie.After-count-n → tie.Start
-start n = n.before.before.before.before.before
+start n = let way = n.before.before.before.before in way.before
 
 returns : tie.Need-returns-then-got-le0
 returns c =

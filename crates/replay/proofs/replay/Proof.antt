@@ -14,16 +14,16 @@ abbrev first : tie.After-begin → tie.Start
 first b = let s = b.before.before.before.before in s.before.before.before
 
 abbrev opened : tie.After-run-arg-5-1 → tie.After-begin
-opened c = c.before.before.before.before.before.before.before
+opened c = let way = c.before.before.before.before in way.before.before.before
 
 abbrev ran : tie.After-struct_known-1 → tie.After-run-stop
-ran c = c.before.before.before.before.before.before.before.before.before
+ran c = let way = c.before.before.before.before in let way2 = way.before.before.before.before in way2.before
 
 abbrev tested : tie.After-finish-arg-5-1 → tie.After-struct_known-1
-tested c = c.before.before.before.before.before.before
+tested c = let way = c.before.before.before.before in way.before.before
 
 abbrev finished : tie.After-slice_known-10-1 → tie.After-finish-filled
-finished c = c.before.before.before.before.before.before.before.before
+finished c = let way = c.before.before.before.before in way.before.before.before.before
 
 begin-requires : tie.Need-begin-requires
 begin-requires c κs = search rules

@@ -29,10 +29,10 @@ decreases-loop streams store₀ table₀ list₀ line₀ chunk₀ left₀ held�
 
 -- the turn of the loop that `read_once` is called in, and the call of it, from what comes after
 abbrev turn : tie.After-read_once-arg-in-loop-chunk-4-1 invariant-loop decreases-loop → tie.In-loop-chunk invariant-loop decreases-loop
-turn c = c.before.before.before.before.before
+turn c = let way = c.before.before.before.before in way.before
 
 abbrev once : tie.After-struct_known-1 invariant-loop decreases-loop → tie.After-read_once-t invariant-loop decreases-loop
-once c = c.before.before.before.before.before.before.before.before.before
+once c = let way = c.before.before.before.before in let way2 = way.before.before.before.before in way2.before
 
 loop-holds : tie.Need-loop-chunk-init invariant-loop decreases-loop
 loop-holds c =

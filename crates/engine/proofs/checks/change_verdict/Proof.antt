@@ -83,7 +83,7 @@ returns-3 c =
     tested₂ w32 is h.has_left-is_held.result i.id.result t.time-2.result h.has_left-is_held.ensures (search rules) (search rules)
     ∙ ap₂ is i.id.ensures t.time-2.ensures in
     by_left a.before.before.before.before
-    (passes _ BadTime _ _ (time_is g.before.before.before.before.before ∙ g.if-bad_step_time.false)
+    (passes _ BadTime _ _ (let way = g.before.before.before.before in time_is way.before ∙ g.if-bad_step_time.false)
     (passes _ BadNumber _ _ (sym k.bad_numbers.ensures ∙ k.if-bad_numbers.false)
     (c.verdict_by_held.ensures ∙ (λ j. first_to_fail (held_checks a.args.c (id j) (a.requires.left_is j))))))
 

@@ -81,7 +81,8 @@ returns-2 c =
     let m = c in
     let k = m in
     let v = k in
-    let a = start c.before.before.before.before.before.before.before in
+    let way = c.before.before.before.before in
+    let a = start way.before.before.before in
     done _ (entry a) _ m.make_change.result _
     (sym (sound_lent (entry a) a.requires _) ∙ (sym v.change_verdict.ensures ∙ k.in-Passed.is))
     m.make_change.ensures

@@ -66,7 +66,8 @@ unfolding clock_out
 returns-2 c =
     let m = c in
     let k = m in
-    let v = k.before.before.before.before.before.before in
+    let way = k.before.before.before.before in
+    let v = way.before.before in
     let b = v in
     let a = b.args in
     let w = words a.store.now a.table.now in

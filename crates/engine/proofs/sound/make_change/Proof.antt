@@ -70,7 +70,8 @@ returns : tie.Need-returns
 returns c =
     let p = c in
     let k = p in
-    let s = k.before.before.before.before.before.before.before in
+    let way = k.before.before.before.before in
+    let s = way.before.before.before in
     let a = start s.before in
     let h = s in
     record {

@@ -47,7 +47,8 @@ same-length-2 c = search rules
 returns : tie.Need-returns
 returns c =
     let s = c in
-    let l = s.before.before.before.before.before in
+    let way = s.before.before.before.before in
+    let l = way.before in
     let a = start l in
     record {
       answer_is = ap Accepted (held_then (entry a) a.args.t a.requires l.left_at-left.result (left_is l));

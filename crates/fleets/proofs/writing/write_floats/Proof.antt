@@ -84,7 +84,7 @@ write-float-requires c κs =
 
 -- a float that was made, once it is written
 abbrev made : tie.After-slice_known-in-loop-i-1 invariant-loop decreases-loop → tie.After-make_float-made invariant-loop decreases-loop
-made c = c.before.before.before.before.before
+made c = let way = c.before.before.before.before in way.before
 
 add-i : tie.Need-overflow_add-i invariant-loop decreases-loop
 add-i c =

@@ -58,7 +58,7 @@ abbrev entered : tie.After-struct_told-6-1 → tie.After-passage_from-x
 entered c = c.before.before.before.before
 
 abbrev timed : tie.After-passage_from-x → tie.After-wide_signed
-timed c = c.before.before.before.before.before
+timed c = let way = c.before.before.before.before in way.before
 
 passage-from-requires-2 : tie.Need-passage_from-y-requires
 passage-from-requires-2 c κs =

@@ -13,7 +13,7 @@ use Rattle.session.proofs.feeding.end_line.Tie as tie
 
 -- the entry
 abbrev start : tie.After-answer_line → tie.Start
-start c = c.before.before.before.before.before.before.before.before
+start c = let way = c.before.before.before.before in way.before.before.before.before
 
 slice-aggregate-answer-line : tie.Need-slice_bounds-answer_line-end
 slice-aggregate-answer-line c = sym (length-take-le _ _ (omega arith))
@@ -33,7 +33,8 @@ answer-line-requires c κs = search rules
 add-result : tie.Need-overflow_add-result
 add-result c =
     let l = c in
-    let w = l.before.before.before.before.before.before in
+    let way = l.before.before.before.before in
+    let w = way.before.before in
     let a = start w in
     let s = w.answer_line in
     let f =
@@ -56,7 +57,8 @@ same-length-4 c = search rules
 returns : tie.Need-returns
 returns c =
     let l = c in
-    let w = l.before.before.before.before.before.before in
+    let way = l.before.before.before.before in
+    let w = way.before.before in
     let a = start w in
     let s = w.answer_line in
     let out = a.args.out.now in

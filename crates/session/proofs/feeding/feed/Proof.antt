@@ -19,7 +19,7 @@ decreases-loop store₀ table₀ list₀ line₀ held chunk out₀ last at₀ i�
 
 -- the entry
 abbrev start : tie.At-loop-i invariant-loop decreases-loop → tie.Start invariant-loop decreases-loop
-start c = c.before.before.before.before.before
+start c = let way = c.before.before.before.before in way.before
 
 sub-last : tie.Need-overflow_sub-last invariant-loop decreases-loop
 sub-last c = search rules
@@ -69,7 +69,9 @@ take-byte-requires : tie.Need-take_byte-at-requires invariant-loop decreases-loo
 take-byte-requires c κs =
     let k = c in
     let t = k in
-    let w = t.before.before.before.before.before.before.before.before.before in
+    let way = t.before.before.before.before in
+    let way2 = way.before.before.before.before in
+    let w = way2.before in
     let l = w.loop-i in
     let a = start w in
     can_take a.args.chunk.now a.args.store.now a.args.table.now a.args.line.now a.args.held
@@ -88,7 +90,11 @@ loop-again c =
     let b = k in
     let f = b in
     let o = f in
-    let w = o.before.before.before.before.before.before.before.before.before.before.before.before.before.before.before.before.before.before in
+    let way = o.before.before.before.before in
+    let way2 = way.before.before.before.before in
+    let way3 = way2.before.before.before.before in
+    let way4 = way3.before.before.before.before in
+    let w = way4.before.before in
     let l = w.loop-i in
     let a = start w in
     let t = k.take_byte-at in (

@@ -8,7 +8,7 @@ use Rattle.session.proofs.feeding.finish.Tie as tie
 
 -- the entry
 abbrev start : tie.After-end_line → tie.Start
-start c = c.before.before.before.before.before.before.before.before.before
+start c = let way = c.before.before.before.before in let way2 = way.before.before.before.before in way2.before
 
 returns : tie.Need-returns-then-held-eq0
 returns c = let a = c in ends_empty a.args.store.now a.args.table.now a.args.line.now a.args.out.now a.args.held c.if-held-eq0.true
@@ -34,7 +34,8 @@ same-length-5 c = search rules
 returns-2 : tie.Need-returns
 returns-2 c =
     let l = c in
-    let w = l.before.before.before.before.before.before in
+    let way = l.before.before.before.before in
+    let w = way.before.before in
     let a = start w in
     let e = w.end_line in
     ends_line a.args.store.now a.args.table.now a.args.line.now a.args.out.now a.args.held (omega arith) e.new.store e.new.table

@@ -8,7 +8,7 @@ use Rattle.session.proofs.feeding.take_byte.Tie as tie
 
 -- the entry
 abbrev start : tie.After-end_line-filled → tie.Start
-start c = c.before.before.before.before.before.before.before.before.before
+start c = let way = c.before.before.before.before in let way2 = way.before.before.before.before in way2.before
 
 end-line-requires : tie.Need-end_line-filled-requires
 end-line-requires c κs = search rules
@@ -31,7 +31,8 @@ same-length-5 c = search rules
 returns : tie.Need-returns-then-b-eq10
 returns c =
     let l = c in
-    let w = l.before.before.before.before.before.before in
+    let way = l.before.before.before.before in
+    let w = way.before.before in
     let a = start w in
     let e = w.end_line-filled in
     newline_taken a.args.b a.args.line.now a.args.at a.args.store.now a.args.table.now a.args.out.now (omega arith) e.new.store

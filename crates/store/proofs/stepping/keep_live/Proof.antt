@@ -98,7 +98,8 @@ place-by-requires c κs =
 
 write-record-requires-2 : tie.Need-write_record-requires-else-lives_on invariant-loop decreases-loop
 write-record-requires-2 c κs =
-    let l = looping c.before.before.before.before.before in
+    let way = c.before.before.before.before in
+    let l = looping way.before in
     omega (arith, l.loop-i.invariant.keeping, l.loop-i-test.true)
 
 add-i-2 : tie.Need-overflow_add-i-else-lives_on invariant-loop decreases-loop
