@@ -13,7 +13,8 @@ use Rattle.rows.specs.Phases.{phase_of, reference_time, is_live, live_phases}
 use Rattle.methods.specs.Reach.{expanded_range, expanded_rect, expanded_window, block_of, cells_of_row, cells_of_rows, cells_of, moved_span, meets, moved_cell_meets, moved_around_meets}
 use Rattle.methods.specs.Methods.{bounds_in, expanded_block, iterated, choice}
 use Rattle.ledger.specs.Refusals.{first_to_fail, is_rectangle}
-use Rattle.ledger.specs.Machine.{moved_held, new_placements, live_placements, keeping, moved_on, stepped, without, with_report, without_id, speeds_placed, rows_in, useful_cells, put_in_order, ids_in_order, summed}
+use Rattle.ledger.specs.Machine.{moved_held, new_placements, live_placements, keeping, moved_on, stepped, without}
+use Rattle.ledger.specs.Machine.{with_report, without_id, speeds_placed, rows_in, useful_cells, put_in_order, ids_in_order, summed}
 use Rattle.ledger.specs.Calls as L
 use Rattle.fields.specs.Fields.{digits, written, field_of}
 use Rattle.fields.specs.Numbers.{fields}

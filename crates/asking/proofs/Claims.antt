@@ -115,7 +115,8 @@ module _ (w : Words) (ask : Ask) where
       let r = a.0 in
       let b = passing_in test (records_in w) a.1 in
       let read = eqb (slot_of_key r.key) (slot_of p) && in_set marks (number_of_key r.key) in
-      mathlib.Core.List.Memᴰ.cast a.2 (map-has id_of (passing (is_inside ask.query) (records_in w)) (passing_has (is_inside ask.query) (records_in w) b.0 (and_right read (is_inside ask.query r) b.1))))
+      mathlib.Core.List.Memᴰ.cast a.2 (map-has id_of (passing (is_inside ask.query) (records_in w))
+      (passing_has (is_inside ask.query) (records_in w) b.0 (and_right read (is_inside ask.query r) b.1))))
       (λ k. found_inside ps k)
       (mathlib.Core.List.Memᴰ.append_cases (map id_of (listed_of w ask p)) m)
 

@@ -163,7 +163,8 @@ optimal_chosen {table} {slot} aim {method} s fair h clear m =
     rw n (record { marks_are = rw clear at m.marks_are ∙ optimal_marks rows (slot_valid s) aim fair; rounds_are = refl })
 
 -- where bounds are missing, no method chooses a cell
-pub none_chosen : (method : ℕ) (table : List ℤ) (slot : ℕ) (aim : Aim) {marks : List ℕ} → naive_block (rows_of_slot table slot) aim ≡ missing → marks ≡ no_marks → ChosenBy method table slot aim marks 0
+pub none_chosen : (method : ℕ) (table : List ℤ) (slot : ℕ) (aim : Aim) {marks : List ℕ} → naive_block (rows_of_slot table slot) aim ≡ missing → marks ≡ no_marks
+    → ChosenBy method table slot aim marks 0
 unfolding choice with_cells passing no_marks
 none_chosen zero table slot aim naive e = record { marks_are = rw naive e; rounds_are = refl }
 none_chosen (suc zero) table slot aim naive e = record { marks_are = rw naive e; rounds_are = refl }

@@ -1,7 +1,8 @@
 -- The laws of steps, jumps and draws. A doubled map is the map done twice, so a jump by doubling does its map as many times as said; the number of steps is twice
 -- its half, and one more where it is odd.
 -- Assumes nothing.
-use Rattle.std.proofs.Common.{◌≡◌, ℕ, zero, suc, ◌+◌, ◌*◌, ◌/◌, ◌%◌, ◌<◌, ◌≤◌, Bool, true, false, cond, eqb, sym, refl, ap, ◌∙◌, mod-lt, mul_assoc, mul_comm, div-lt_iff_lt-mul, mul-add, arith, lit<, eqb-true}
+use Rattle.std.proofs.Common.{◌≡◌, ℕ, zero, suc, ◌+◌, ◌*◌, ◌/◌, ◌%◌, ◌<◌, ◌≤◌, Bool, true, false}
+use Rattle.std.proofs.Common.{cond, eqb, sym, refl, ap, ◌∙◌, mod-lt, mul_assoc, mul_comm, div-lt_iff_lt-mul, mul-add, arith, lit<, eqb-true}
 use native.Mathlib.Nat.{mul-lt-mul_of_pos_left, mod-add-mod, add-mod-mod, div-add-mod, mul-add-mod_self_left}
 use borrow.Author.Tests.{eqb-false}
 use Rattle.generator.specs.Generator.{states, mapped, one, step, times, draw_below, doubled, jumped}

@@ -196,7 +196,8 @@ calls_leave (lent ∷ more) l w left =
     calls_leave more (L.next l (fed lent)) (next w lent) (call_leaves l w lent left)
 
 -- at every point the ledger is good and the words match it
-pub every_point_matches : (w : Words) (time : ℤ) → is_accepted (open_out w time).answer ≡ true → (calls : List LentCall) → Left (L.after (opened time) (fed_all calls)) (after (opened_words w time) calls)
+pub every_point_matches : (w : Words) (time : ℤ) → is_accepted (open_out w time).answer ≡ true → (calls : List LentCall)
+    → Left (L.after (opened time) (fed_all calls)) (after (opened_words w time) calls)
 every_point_matches w time accepted calls =
     calls_leave calls (opened time) (opened_words w time) (opened_left w time accepted)
 

@@ -242,7 +242,8 @@ module _ (l : Ledger) (table : List ℤ) (r : Report) (good : Good l) (matches :
       ∙ ap (λ (b : Bool). cond b (row_of_drift (drift_of r) ∷ []) []) (placed_alike now p now n r live (current_live now) here)
       ∙ sym (map-passing own_row (is_there p (cell_of_number n)) (placement now r) [])
 
-  row_placed : (p : ℕ) → is_live now p ≡ true → (n : ℕ) → n < cells → row_at (widened_by_all table one) (slot_of p) n ≡ bounds_of (speeds_placed p (cell_of_number n) (l.placements ++ placement now r ∷ []))
+  row_placed : (p : ℕ) → is_live now p ≡ true → (n : ℕ) → n < cells
+      → row_at (widened_by_all table one) (slot_of p) n ≡ bounds_of (speeds_placed p (cell_of_number n) (l.placements ++ placement now r ∷ []))
   unfolding rows_in
   row_placed p live n here =
       row_with_speeds table one (slot_of p) n matches.table_long one_placeable here (table_valid l table good matches (slot_of p) n (slot_on p) here)

@@ -27,21 +27,24 @@ use Rattle.ledger.specs.declared.Refusal.TheVariants.{Full}
 
 pub all_as_said : AllAsSaid examples
 unfolding examples Grid.examples ledger_p11 ledger_p12 phases_held columns_placed column_of cell_span number_at min_z max_z eq_z passing some joined same_row is_empty bounds_of expanded_range
-    expanded_rect block_of cells_of_row cells_of_rows cells_of moved_span meets moved_cell_meets bounds_in expanded_block iterated choice in_range x_at y_at in_rect inside_at is_silent is_listed phase_of
+    expanded_rect block_of cells_of_row cells_of_rows cells_of moved_span meets moved_cell_meets bounds_in expanded_block iterated choice in_range
+    x_at y_at in_rect inside_at is_silent is_listed phase_of
     reference_time is_live live_phases first_to_fail is_rectangle moved_held new_placements live_placements keeping moved_on stepped without with_report without_id speeds_placed rows_in
     useful_cells put_in_order ids_in_order summed answer_to changed_by ids_of next reply_to replies after
 all_as_said = refl
 
 pub listing_as_said : replies (opened (pos 0)) listing ≡ listing_says
 unfolding listing listing_says column_of cell_span number_at min_z max_z eq_z passing some joined same_row is_empty bounds_of expanded_range expanded_rect block_of cells_of_row cells_of_rows cells_of
-    moved_span meets moved_cell_meets bounds_in expanded_block iterated choice in_range x_at y_at in_rect inside_at is_silent is_listed phase_of reference_time is_live live_phases first_to_fail is_rectangle
+    moved_span meets moved_cell_meets bounds_in expanded_block iterated choice in_range x_at y_at in_rect inside_at is_silent is_listed phase_of
+    reference_time is_live live_phases first_to_fail is_rectangle
     moved_held new_placements live_placements keeping moved_on stepped without with_report without_id speeds_placed rows_in useful_cells put_in_order ids_in_order summed answer_to
     changed_by ids_of next reply_to replies after
 listing_as_said = refl
 
 pub refused_as_said : answers (opened (pos 3600)) refused ≡ refused_says
 unfolding answers refused refused_says column_of cell_span number_at min_z max_z eq_z passing some joined same_row is_empty bounds_of expanded_range expanded_rect block_of cells_of_row cells_of_rows
-    cells_of moved_span meets moved_cell_meets bounds_in expanded_block iterated choice in_range x_at y_at in_rect inside_at is_silent is_listed phase_of reference_time is_live live_phases first_to_fail
+    cells_of moved_span meets moved_cell_meets bounds_in expanded_block iterated choice in_range x_at y_at in_rect inside_at is_silent is_listed
+    phase_of reference_time is_live live_phases first_to_fail
     is_rectangle moved_held new_placements live_placements keeping moved_on stepped without with_report without_id speeds_placed rows_in useful_cells put_in_order ids_in_order
     summed answer_to changed_by ids_of next reply_to replies after
 refused_as_said = refl
@@ -51,7 +54,8 @@ full_as_said = (crowd_full, crowd_room)
 
 pub numbers_as_said : AllAsSaid numbers
 unfolding numbers ledger_of_one column_of cell_span number_at min_z max_z eq_z passing some joined same_row is_empty bounds_of expanded_range expanded_rect block_of cells_of_row cells_of_rows cells_of
-    moved_span meets moved_cell_meets bounds_in expanded_block iterated choice in_range x_at y_at in_rect inside_at is_silent is_listed phase_of reference_time is_live live_phases first_to_fail is_rectangle
+    moved_span meets moved_cell_meets bounds_in expanded_block iterated choice in_range x_at y_at in_rect inside_at is_silent is_listed phase_of
+    reference_time is_live live_phases first_to_fail is_rectangle
     moved_held new_placements live_placements keeping moved_on stepped without with_report without_id speeds_placed rows_in useful_cells put_in_order ids_in_order summed answer_to
     changed_by ids_of next reply_to replies after
 numbers_as_said = λ i. 0 ∷ 3 ∷ 4 ∷ 5 ∷ 6 ∷ number_of (crowd_full i) ∷ 8 ∷ 10 ∷ []

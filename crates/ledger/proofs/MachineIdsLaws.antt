@@ -70,7 +70,8 @@ put_rising n (one {n = m} {ns = ms} above r) new = go (leb n m) refl (put_rising
 
 -- ---- the order of putting
 
-put_two : (a b m : ℕ) (ms : List ℕ) → a ≤ b → put_in_order a (put_in_order b ms) ≡ put_in_order b (put_in_order a ms) → put_in_order a (put_in_order b (m ∷ ms)) ≡ put_in_order b (put_in_order a (m ∷ ms))
+put_two : (a b m : ℕ) (ms : List ℕ) → a ≤ b → put_in_order a (put_in_order b ms) ≡ put_in_order b (put_in_order a ms)
+    → put_in_order a (put_in_order b (m ∷ ms)) ≡ put_in_order b (put_in_order a (m ∷ ms))
 put_two a b m ms h ih =
     dite (ℕ_discrete a b) (λ (e : a ≡ b). rw e)
     (λ e.

@@ -48,7 +48,8 @@ module _ (rows : Rows) (aim : Aim) (n : ℕ) (before : Row) (b : Block) (r : ℕ
   unfolding iterated
   same_is e h = rw (e, iterated) (rw h)
 
-  pub onward_is : is_empty (bounds_in rows b) ≡ false → same_row (bounds_in rows b) before ≡ false → iterated (suc n) rows aim before b r ≡ iterated n rows aim (bounds_in rows b) (next rows aim b) (suc r)
+  pub onward_is : is_empty (bounds_in rows b) ≡ false → same_row (bounds_in rows b) before ≡ false
+      → iterated (suc n) rows aim before b r ≡ iterated n rows aim (bounds_in rows b) (next rows aim b) (suc r)
   unfolding iterated
   onward_is e h = rw (e, iterated) (rw h)
 

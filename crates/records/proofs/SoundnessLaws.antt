@@ -217,7 +217,8 @@ header_of_store now rs time few =
     (and_true _ _ time (from_between 0 capacity (pos (length rs)) (record { least = omega arith; most = few; whole = refl })))
     (words_zero 5)
 
-pub store_sound : (now : ℤ) (rs : List Record) → length rs ≤ capacity → is_time now ≡ true → all_sound now rs ≡ true → is_sorted rs ≡ true → ids_distinct rs ≡ true → is_sound_store (store_of now rs) ≡ true
+pub store_sound : (now : ℤ) (rs : List Record) → length rs ≤ capacity → is_time now ≡ true → all_sound now rs ≡ true → is_sorted rs ≡ true → ids_distinct rs ≡ true
+    → is_sound_store (store_of now rs) ≡ true
 unfolding is_sound_store
 store_sound now rs few time sound sorted distinct =
     let s = store_of now rs in

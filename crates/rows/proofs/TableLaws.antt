@@ -287,7 +287,8 @@ two_live table earlier zero h k = absurd (omega arith)
 two_live table earlier (suc zero) h k = refl
 two_live table earlier (suc (suc c)) h k = absurd (omega arith)
 
-pub three_live : (table : List ℤ) (earlier c : ℕ) → 2 ≤ c → with_newly_live_empty table earlier c ≡ emptied_if_later (emptied_if_later (emptied_if_later table earlier c) earlier (c - 1)) earlier (c - 2)
+pub three_live : (table : List ℤ) (earlier c : ℕ) → 2 ≤ c → with_newly_live_empty table earlier c
+    ≡ emptied_if_later (emptied_if_later (emptied_if_later table earlier c) earlier (c - 1)) earlier (c - 2)
 unfolding with_later_empty live_phases
 three_live table earlier zero h = absurd (omega arith)
 three_live table earlier (suc zero) h = absurd (omega arith)

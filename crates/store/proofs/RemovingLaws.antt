@@ -109,7 +109,8 @@ pub moved_down_lem :
     → set w i (back w32 (get_or w (i + record_words) (pos 0))) ≡ moved_down (pos 0) record_words l (i + 1)
 moved_down_lem l w i e h f = rw (held w32 (get_or w (i + record_words) (pos 0)) f, e) (down_more (pos 0) record_words l i (omega arith))
 
-pub down_done : (l w : List ℤ) (i : ℕ) → w ≡ moved_down (pos 0) record_words l i → record_words + i ≤ length l → length l - record_words ≤ i → w ≡ drop record_words l ++ drop (length l - record_words) l
+pub down_done : (l w : List ℤ) (i : ℕ) → w ≡ moved_down (pos 0) record_words l i → record_words + i ≤ length l → length l - record_words ≤ i
+    → w ≡ drop record_words l ++ drop (length l - record_words) l
 down_done l w i e h g = e ∙ down_end (pos 0) record_words l i (omega arith)
 
 pub removed_at : (id : ℤ) (rs : List Record) → removed id rs ≡ take (index_of id rs) rs ++ drop (index_of id rs + 1) rs

@@ -43,7 +43,8 @@ returns-3 c =
     let l = c in
     let f = l in
     let now = now_of f.args.store.now in
-    otherwise f.out_of_ask_range-in-During.result c.out_of_ask_range-else-out_of_ask_range.result (out_of_ask_range now f.in-During.first) (out_of_ask_range now f.in-During.last) l.if-out_of_ask_range.false
+    otherwise f.out_of_ask_range-in-During.result c.out_of_ask_range-else-out_of_ask_range.result
+    (out_of_ask_range now f.in-During.first) (out_of_ask_range now f.in-During.last) l.if-out_of_ask_range.false
     (tested₁ w32 (out_of_ask_range now) f.out_of_ask_range-in-During.result f.in-During.first f.out_of_ask_range-in-During.ensures (search rules))
     (tested₁ w32 (out_of_ask_range now) c.out_of_ask_range-else-out_of_ask_range.result f.in-During.last c.out_of_ask_range-else-out_of_ask_range.ensures (search rules))
     ∙ sym (ap (bad_when now) f.in-During.is)
