@@ -1,5 +1,5 @@
 /* The float index for C (C99 or later) and C++. Link with libcapi.a, which
- * `rt staticlib capi` writes to target/staticlib on x86-64 Linux.
+ * `tools/built capi` writes to target/staticlib on x86-64 Linux.
  *
  * Units: positions are centimetres, speeds centimetres per second, times
  * seconds, all whole numbers. Ids are 1 to 65,535.

@@ -1,4 +1,4 @@
-//! Links the proved library, which `rt staticlib capi` writes to the
+//! Links the proved library, which `tools/built capi` writes to the
 //! repository's target/staticlib, or the one in the folder that
 //! FLOAT_INDEX_LIBRARY names.
 
@@ -11,7 +11,7 @@ fn main() {
     let folder = var("FLOAT_INDEX_LIBRARY").map_or(own, PathBuf::from);
     let library = folder.join("libcapi.a");
     if !library.exists() {
-        println!("cargo:warning=no libcapi.a: run `rt staticlib capi` first");
+        println!("cargo:warning=no libcapi.a: run `tools/built capi` first");
     }
     println!("cargo:rerun-if-changed={}", library.display());
     println!("cargo:rerun-if-env-changed=FLOAT_INDEX_LIBRARY");
