@@ -9,12 +9,12 @@ ghost use Rattle.lanes.specs.Lanes.{lanes, lane_row_count, Folded, lane_row, lan
 use rows::{ROW_WORDS, Row, SLOT_WORDS};
 
 // The rows folded together, and their numbers.
-const LANE_ROWS: usize = 16;
+pub const LANE_ROWS: usize = 16;
 
-const LANES: usize = ROW_WORDS * LANE_ROWS;
+pub const LANES: usize = ROW_WORDS * LANE_ROWS;
 
 // The numbers of 16 rows folded, each into its lane.
-fn fold_block(block: &[i16], least: &mut [i16; LANES], greatest: &mut [i16; LANES])
+pub fn fold_block(block: &[i16], least: &mut [i16; LANES], greatest: &mut [i16; LANES])
     requires { length block.now ≡ lanes }
     ensures { Folded block.now least.old greatest.old least.new greatest.new }
 {
@@ -43,7 +43,7 @@ fn lane_row(least: &[i16; LANES], greatest: &[i16; LANES], j: usize) -> Row
 }
 
 // The lane rows joined.
-fn join_lanes(least: &[i16; LANES], greatest: &[i16; LANES]) -> Row
+pub fn join_lanes(least: &[i16; LANES], greatest: &[i16; LANES]) -> Row
     ensures { result ≡ lane_bounds least.now greatest.now }
 {
     let mut bounds = Row::empty();
