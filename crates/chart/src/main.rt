@@ -15,12 +15,12 @@ fn print(streams: Streams, text: &[u8; CHART_BYTES])
 }
 
 fn main(rt: HostRuntime) {
-    let mut text = [0u8; CHART_BYTES];
-    write_chart(&mut text);
     let streams = Streams {
         input: rt.stdin(),
         output: rt.stdout(),
         errors: rt.stderr(),
     };
+    let mut text = [0u8; CHART_BYTES];
+    write_chart(&mut text);
     print(streams, &text);
 }

@@ -79,7 +79,12 @@ fn write_some(streams: Streams, out: &[u8], failure: &[u8]) -> usize
 {
     for _ in 0..u64::MAX {
         match streams.output.write_some(out) {
-            Ok(put) => return put,
+            Ok(put) => {
+                if put == 0 {
+                    tell(streams, failure, &Error::from(ErrorKind::WriteZero));
+                }
+                return put;
+            }
             Err(error) => {
                 if !tries_again(&error) {
                     tell(streams, failure, &error);
