@@ -6,6 +6,7 @@ ghost use Rattle.std.specs.Prelude.{◌≤◌, length};
 ghost use Rattle.streams.specs.Streams.{Moved};
 
 use std::io::{Error, ErrorKind, Print, Read, Stderr, Stdin, Stdout, Write};
+use std::thread::yield_now;
 
 // The standard streams of the program, which its `main` is given.
 #[derive(Clone, Copy)]
@@ -18,9 +19,16 @@ pub struct Streams {
 // Bytes enough for the system's words for an error, and its number.
 const TEXT_BYTES: usize = 128;
 
-// Whether the call that has just failed is to be made again.
+// Whether the call that has just failed is to be made again. Where it would have to wait, whoever it waits for is let run first.
 fn tries_again(error: &Error) -> bool {
-    matches!(error.kind(), ErrorKind::Interrupted | ErrorKind::WouldBlock)
+    match error.kind() {
+        ErrorKind::WouldBlock => {
+            yield_now();
+            true
+        }
+        ErrorKind::Interrupted => true,
+        _ => false,
+    }
 }
 
 // How many bytes of an error's text are the system's words: the library puts a space and the error's number in parentheses behind them.
@@ -47,10 +55,10 @@ fn tell(streams: Streams, failure: &[u8], error: &Error) {
     let mut text = [0u8; TEXT_BYTES];
     let n = text_of(error, &mut text);
     let words = words_of(&text[..n]);
-    let _told = streams.errors.write_all(failure).is_ok()
-        && streams.errors.write_all(b": ").is_ok()
-        && streams.errors.write_all(&text[..words]).is_ok()
-        && streams.errors.write_all(b"\n").is_ok();
+    let _failure = streams.errors.write_all(failure).is_ok();
+    let _colon = streams.errors.write_all(b": ").is_ok();
+    let _words = streams.errors.write_all(&text[..words]).is_ok();
+    let _end = streams.errors.write_all(b"\n").is_ok();
 }
 
 // What came of standard input: how many bytes stand at the start of the chunk, 0 at the end of the input, or less where the read failed. A proved
