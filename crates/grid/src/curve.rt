@@ -5,12 +5,6 @@ ghost use Rattle.grid.specs.Curve.{curve_number, IsCurve, CanLookUp};
 use crate::curve_table::CURVE;
 use crate::{CELLS, Cell, SIDE};
 
-fn wide(n: u16) -> usize
-    ensures { result ≡ n }
-{
-    n as usize
-}
-
 // The table of curve numbers, held by a pass over many cells: an index into a constant array writes the whole array out first.
 pub fn curve_numbers() -> [u16; CELLS]
     ensures { IsCurve result }
@@ -23,5 +17,5 @@ pub fn number_in(numbers: &[u16; CELLS], c: Cell) -> usize
     requires { CanLookUp numbers.now c }
     ensures { result ≡ curve_number c }
 {
-    wide(numbers[c.row * SIDE + c.column])
+    usize::from(numbers[c.row * SIDE + c.column])
 }

@@ -99,16 +99,9 @@ impl When {
     {
         match self {
             When::At(time) => time,
-            When::During(_first, last) => last,
+            When::During(_, last) => last,
         }
     }
-}
-
-// The later of two times.
-fn later(a: i32, b: i32) -> i32
-    ensures { result ≡ max_z a b }
-{
-    if a <= b { b } else { a }
 }
 
 // A number of 32 bits in 64.
@@ -122,7 +115,7 @@ impl Range {
     pub fn holds(self, z: i64) -> bool
         ensures { result ≡ between self.low self.high z }
     {
-        self.low <= z && z <= self.high
+        (self.low..=self.high).contains(&z)
     }
 }
 
@@ -133,12 +126,12 @@ impl Rect {
     {
         Rect {
             x: Range {
-                low: wide_signed(low_x),
-                high: wide_signed(high_x),
+                low: i64::from(low_x),
+                high: i64::from(high_x),
             },
             y: Range {
-                low: wide_signed(low_y),
-                high: wide_signed(high_y),
+                low: i64::from(low_y),
+                high: i64::from(high_y),
             },
         }
     }
@@ -155,7 +148,7 @@ fn position_at(x: i32, v: i32, t: i32, s: i64) -> i64
     requires { SmallAxis x v t s }
     ensures { result ≡ position_after x v (s -ℤ t) }
 {
-    position_after(wide_signed(x), wide_signed(v), s - wide_signed(t))
+    position_after(i64::from(x), i64::from(v), s - i64::from(t))
 }
 
 // Its passage through a range from time s on.
@@ -163,7 +156,7 @@ fn passage_from(s: i64, x: i32, v: i32, t: i32, range: Range) -> Passage
     requires { SmallStartAt s x v t range }
     ensures { result ≡ passage_of (position_after x v (s -ℤ t)) v range }
 {
-    Passage::of(position_at(x, v, t, s), wide_signed(v), range)
+    Passage::of(position_at(x, v, t, s), i64::from(v), range)
 }
 
 impl Report {
@@ -194,7 +187,7 @@ impl Report {
         requires { SmallReport self time }
         ensures { result ≡ inside_at rect time self }
     {
-        let s = wide_signed(time);
+        let s = i64::from(time);
         rect.holds(self.x_at(s), self.y_at(s))
     }
 
@@ -203,8 +196,8 @@ impl Report {
         requires { SmallWindow self rect first last }
         ensures { result ≡ inside_during rect first last self }
     {
-        let from = wide_signed(first);
-        let d = wide_signed(last) - from;
+        let from = i64::from(first);
+        let d = i64::from(last) - from;
         let x = passage_from(from, self.x, self.vx, self.t, rect.x);
         let y = passage_from(from, self.y, self.vy, self.t, rect.y);
         moments::meet(x, y, d)
@@ -215,11 +208,11 @@ impl Report {
         requires { SmallListing self query }
         ensures { result ≡ inside_when query.rect query.when self }
     {
-        let rect = query.rect;
-        let when = query.when;
-        match when {
-            When::At(time) => self.is_inside_at(rect, time),
-            When::During(first, last) => self.is_inside_during(rect, later(first, self.t), last),
+        match query.when {
+            When::At(time) => self.is_inside_at(query.rect, time),
+            When::During(first, last) => {
+                self.is_inside_during(query.rect, first.max(self.t), last)
+            }
         }
     }
 
@@ -228,7 +221,6 @@ impl Report {
         requires { SmallListing self query }
         ensures { result ≡ is_listed query self }
     {
-        let when = query.when;
-        self.t <= when.last() && self.is_inside(query)
+        self.t <= query.when.last() && self.is_inside(query)
     }
 }

@@ -31,7 +31,7 @@ impl Passage {
             Passage {
                 after: p - range.high,
                 until: p - range.low,
-                speed: 0 - v,
+                speed: -v,
             }
         }
     }
@@ -58,11 +58,5 @@ pub fn meet(x: Passage, y: Passage, d: i64) -> bool
     requires { SmallMeeting x y d }
     ensures { result ≡ meeting x y d }
 {
-    if !x.in_time(d) {
-        return false;
-    }
-    if !y.in_time(d) {
-        return false;
-    }
-    x.in_turn(y) && y.in_turn(x)
+    x.in_time(d) && y.in_time(d) && x.in_turn(y) && y.in_turn(x)
 }

@@ -19,8 +19,7 @@ pub fn column_of(x: i64) -> usize
     if x < 0 {
         return 0;
     }
-    let c = (x as usize) / CELL_SIZE;
-    if c < LAST { c } else { LAST }
+    ((x as usize) / CELL_SIZE).min(LAST)
 }
 
 pub fn row_of(y: i64) -> usize
