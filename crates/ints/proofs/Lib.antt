@@ -8,3 +8,4 @@ pub mod Lists
 pub mod Marks
 pub mod Rising
 pub mod Examples
+pub mod Library

@@ -1,7 +1,7 @@
 -- The laws of rows judged in lanes: the rows of a list are valid part by part, those of a block where its lanes of rows are, and those of an empty block.
 -- Assumes nothing.
 use mathlib.Core.Path.{◌≡◌, refl, sym, ap, ap₂, ◌∙◌, subst}
-use mathlib.Core.Bool.{Bool, true, false, ◌&&◌, and_assoc}
+use mathlib.Core.Bool.{Bool, true, false, ◌&&◌, and-true, and_assoc}
 use mathlib.Core.List.{List}
 use mathlib.Core.Logic.{dite}
 use Prim.Native.Nat.{ℕ, zero, suc, ◌+◌, ◌*◌, ◌-◌, ◌≤◌, ◌<◌}
@@ -89,13 +89,14 @@ judged_more words valid j here l h e =
 
 -- ---- the lanes of rows
 
-pub lane_more : (valid : List Bool) (j : ℕ) → 0 < j → j ≤ block_rows
-    → get_or valid (4 * (j - 1)) false && row_lanes_from (block_rows - j) j valid ≡ row_lanes_from (block_rows - (j - 1)) (j - 1) valid
+-- one lane more, behind the others
+pub lane_more : (valid : List Bool) (n j : ℕ) → row_lanes_from n j valid && get_or valid (4 * (j + n)) false ≡ row_lanes_from (suc n) j valid
 unfolding row_lanes_from
-lane_more valid j h k =
-    let e : block_rows - (j - 1) ≡ suc (block_rows - j) = omega arith in
-    let n : suc (j - 1) ≡ j = omega arith in
-    rw (e, n)
+lane_more valid zero j = let e : j + 0 ≡ j = omega arith in rw e (sym (and-true _))
+lane_more valid (suc n) j =
+    let e : j + suc n ≡ suc j + n = omega arith in
+    and_assoc (get_or valid (4 * j) false) (row_lanes_from n (suc j) valid) _
+    ∙ ap (λ (b : Bool). get_or valid (4 * j) false && b) (rw e (lane_more valid n (suc j)))
 
 lanes_judged : (words : List ℤ) (valid : List Bool) (j n : ℕ) → j + n ≤ block_rows → Judged words valid → row_lanes_from n j valid ≡ valid_rows n (drop (4 * j) words)
 unfolding row_lanes_from valid_rows

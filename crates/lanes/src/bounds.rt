@@ -18,14 +18,10 @@ pub fn fold_block(block: &[i16], least: &mut [i16; LANES], greatest: &mut [i16; 
     requires { length block.now ≡ lanes }
     ensures { Folded block.now least.old greatest.old least.new greatest.new }
 {
-    let mut j = 0;
-    while j < LANES {
+    for j in 0..LANES {
         let v = block[j];
-        let low = rows::least(v, least[j]);
-        let high = rows::greatest(v, greatest[j]);
-        least[j] = low;
-        greatest[j] = high;
-        j += 1;
+        least[j] = v.min(least[j]);
+        greatest[j] = v.max(greatest[j]);
     }
 }
 
@@ -47,9 +43,7 @@ pub fn join_lanes(least: &[i16; LANES], greatest: &[i16; LANES]) -> Row
     ensures { result ≡ lane_bounds least.now greatest.now }
 {
     let mut bounds = Row::empty();
-    let mut j = LANE_ROWS;
-    while 0 < j {
-        j -= 1;
+    for j in 0..LANE_ROWS {
         bounds = lane_row(least, greatest, j).join(bounds);
     }
     bounds
@@ -62,12 +56,9 @@ pub fn slot_bounds(table: &[i16], slot: usize) -> Row
 {
     let mut least = [Row::EMPTY_LEAST; LANES];
     let mut greatest = [Row::EMPTY_GREATEST; LANES];
-    let mut number = 0;
-    while number < grid::CELLS {
-        let start = SLOT_WORDS * slot + ROW_WORDS * number;
-        let end = start + LANES;
-        fold_block(&table[start..end], &mut least, &mut greatest);
-        number += LANE_ROWS;
+    for block in 0..grid::CELLS / LANE_ROWS {
+        let start = SLOT_WORDS * slot + LANES * block;
+        fold_block(&table[start..start + LANES], &mut least, &mut greatest);
     }
     join_lanes(&least, &greatest)
 }

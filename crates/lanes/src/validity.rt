@@ -1,21 +1,21 @@
 // Whether every row of a table is valid, a block of 8 rows at a time. Which rows are empty goes from row to row without a pattern, and a branch on it would
 // be guessed wrong. So a block is compared with an empty one as a whole; where it differs, all its 32 places are judged as if a row started at each, in
 // lanes, and every fourth lane counts.
-ghost use Rattle.std.specs.Prelude.{◌≡◌, ◌≤◌, ◌*◌, length};
+ghost use Rattle.std.specs.Prelude.{◌≡◌, ◌/◌, ◌%◌, length};
 ghost use Rattle.rows.specs.Table.{row_words, table_words, empty_rows, valid_rows, valid_table};
 ghost use Rattle.lanes.specs.Validity.{block_rows, places, place_words, same_up_to, Judged, row_lanes_valid, CanJudgeBlock};
 
-use rows::{ROW_WORDS, Row, TABLE_WORDS, is_same};
+use rows::{ROW_WORDS, Row, TABLE_WORDS};
 
 // The rows of a block, and its places, which are its numbers.
 const BLOCK_ROWS: usize = 8;
 
 const PLACES: usize = ROW_WORDS * BLOCK_ROWS;
 
-// The rows judged in lanes, and their numbers: all but the last block's, behind whose last place are no three numbers more.
-const ROWS_IN_LANES: usize = TABLE_WORDS / ROW_WORDS - BLOCK_ROWS;
+// The blocks judged in lanes, and their numbers: all but the last, behind whose last place are no three numbers more.
+const BLOCKS_IN_LANES: usize = TABLE_WORDS / PLACES - 1;
 
-const WORDS_IN_LANES: usize = ROW_WORDS * ROWS_IN_LANES;
+const WORDS_IN_LANES: usize = PLACES * BLOCKS_IN_LANES;
 
 // The numbers that a block's places take in: a row that starts at the last one ends three numbers on.
 const PLACE_WORDS: usize = PLACES + ROW_WORDS - 1;
@@ -26,10 +26,8 @@ fn judged_places(words: &[i16]) -> [bool; PLACES]
     ensures { Judged words.now result }
 {
     let mut valid = [false; PLACES];
-    let mut j = 0;
-    while j < PLACES {
+    for j in 0..PLACES {
         valid[j] = Row::read_from(words, j).is_valid();
-        j += 1;
     }
     valid
 }
@@ -39,10 +37,8 @@ fn row_lanes_valid(valid: &[bool; PLACES]) -> bool
     ensures { result ≡ row_lanes_valid valid.now }
 {
     let mut all = true;
-    let mut j = BLOCK_ROWS;
-    while 0 < j {
-        j -= 1;
-        all = valid[ROW_WORDS * j] & all;
+    for j in 0..BLOCK_ROWS {
+        all = all & valid[ROW_WORDS * j];
     }
     all
 }
@@ -52,7 +48,7 @@ fn empty_block() -> [i16; PLACES]
     ensures { result ≡ empty_rows block_rows }
 {
     let mut block = [0; PLACES];
-    rows::empty_rows(&mut block, BLOCK_ROWS);
+    rows::empty_rows(&mut block);
     block
 }
 
@@ -62,10 +58,8 @@ fn begins_with(words: &[i16], block: &[i16; PLACES]) -> bool
     ensures { result ≡ same_up_to places words.now block.now }
 {
     let mut same = true;
-    let mut j = 0;
-    while j < PLACES {
-        same = same & is_same(words[j], block[j]);
-        j += 1;
+    for j in 0..PLACES {
+        same = same & (words[j] == block[j]);
     }
     same
 }
@@ -75,24 +69,18 @@ fn block_valid(words: &[i16], empty: &[i16; PLACES]) -> bool
     requires { CanJudgeBlock words.now empty.now }
     ensures { result ≡ valid_rows block_rows words.now }
 {
-    if begins_with(words, empty) {
-        return true;
-    }
-    let valid = judged_places(words);
-    row_lanes_valid(&valid)
+    begins_with(words, empty) || row_lanes_valid(&judged_places(words))
 }
 
-// Whether the first n rows are valid, one by one.
-fn rows_valid(words: &[i16], n: usize) -> bool
-    requires { row_words * n ≤ length words.now }
-    ensures { result ≡ valid_rows n words.now }
+// Whether the rows of some words are valid, one by one.
+fn rows_valid(words: &[i16]) -> bool
+    requires { length words.now % row_words ≡ 0 }
+    ensures { result ≡ valid_rows (length words.now / row_words) words.now }
 {
-    let mut i = 0;
-    while i < n {
+    for i in 0..words.len() / ROW_WORDS {
         if !Row::read_from(words, ROW_WORDS * i).is_valid() {
             return false;
         }
-        i += 1;
     }
     true
 }
@@ -103,14 +91,11 @@ pub fn all_valid(table: &[i16]) -> bool
     ensures { result ≡ valid_table table.now }
 {
     let empty = empty_block();
-    let mut number = 0;
-    while number < ROWS_IN_LANES {
-        let start = ROW_WORDS * number;
-        let end = start + PLACE_WORDS;
-        if !block_valid(&table[start..end], &empty) {
+    for block in 0..BLOCKS_IN_LANES {
+        let start = PLACES * block;
+        if !block_valid(&table[start..start + PLACE_WORDS], &empty) {
             return false;
         }
-        number += BLOCK_ROWS;
     }
-    rows_valid(&table[WORDS_IN_LANES..], BLOCK_ROWS)
+    rows_valid(&table[WORDS_IN_LANES..])
 }

@@ -1,7 +1,7 @@
 -- The laws of the table: what a row is after another row is written, or a slot is emptied, and that the rows of the table are valid exactly
 -- when the table is.
 -- Assumes nothing.
-use mathlib.Core.Path.{◌≡◌, refl, sym, ap, ap₂, ◌∙◌, subst}
+use mathlib.Core.Path.{◌≡◌, refl, sym, ap, ◌∙◌, subst}
 use mathlib.Core.Bool.{Bool, true, false, cond}
 use mathlib.Core.List.Memᴰ
 use mathlib.Core.List.{List, [], ◌∷◌, ◌++◌, Memᴰ}
@@ -14,7 +14,7 @@ use borrow.Author.Tests.{ltb-true, lt-ltb}
 use lib.Dec.{ltb}
 use lib.IntN.{ℤ, pos}
 use lib.ListN.{length, get_or, set, take, drop, length-set, length-append, length-take, length-drop, get_or-append}
-use lib.Seq.{get_or-set_same, get_or-set_other, get_or-take, get_or-drop, get_or-append-add, length-take-le, ext_get_or}
+use lib.Seq.{get_or-set_same, get_or-set_other, get_or-take, get_or-drop, get_or-append-add, length-take-le, ext_get_or, take_all}
 use Rattle.ints.proofs.Truth.{and_true, and_left, and_right}
 use Rattle.grid.specs.Units.{cells}
 use Rattle.rows.specs.Row.{empty_row, valid_row}
@@ -190,6 +190,40 @@ module _ (table : List ℤ) (slot : ℕ) (sized : length table ≡ table_words) 
       let past : slot < slot' = omega arith in
       replaced_after table (empty_rows cells) (slot_words * slot) slot_words (length-empty_rows cells) (omega arith) (row_place slot' number + m) (omega arith)))
 
+-- every row of every slot is empty once the three slots are emptied, one after another
+module _ (table : List ℤ) (sized : length table ≡ table_words) where
+  abbrev first : List ℤ
+  first = with_slot_empty table 0
+
+  abbrev second : List ℤ
+  second = with_slot_empty first 1
+
+  first_sized : length first ≡ table_words
+  first_sized = length_slot_empty table 0 sized (omega arith) ∙ sized
+
+  second_sized : length second ≡ table_words
+  second_sized = length_slot_empty first 1 first_sized (omega arith) ∙ first_sized
+
+  row_all_emptied : (slot number : ℕ) → slot < slots → number < cells → row_at (with_slot_empty second 2) slot number ≡ empty_row
+  row_all_emptied zero number h k =
+      row_kept second 2 second_sized (omega arith) 0 number k (λ e. omega arith)
+      ∙ row_kept first 1 first_sized (omega arith) 0 number k (λ e. omega arith)
+      ∙ row_emptied table 0 sized (omega arith) number k
+  row_all_emptied (suc zero) number h k =
+      row_kept second 2 second_sized (omega arith) 1 number k (λ e. omega arith) ∙ row_emptied first 1 first_sized (omega arith) number k
+  row_all_emptied (suc (suc zero)) number h k = row_emptied second 2 second_sized (omega arith) number k
+  row_all_emptied (suc (suc (suc slot))) number h k = absurd (omega arith)
+
+  pub all_emptied : empty_rows (slots * cells) ≡ with_slot_empty second 2
+  unfolding row_at
+  all_emptied =
+      same_rows (slots * cells) (empty_rows (slots * cells)) (with_slot_empty second 2) (length-empty_rows (slots * cells))
+      (length_slot_empty second 2 second_sized (omega arith) ∙ second_sized)
+      (λ i h.
+      let place : 4 * i ≡ row_place (i / cells) (i % cells) = omega arith in
+      empty_rows_row (slots * cells) i h
+      ∙ sym (ap (row_from (with_slot_empty second 2)) place ∙ row_all_emptied (i / cells) (i % cells) (omega arith) (omega arith)))
+
 -- ---- the slots of newly live phases emptied
 
 -- the table with the slot of a phase emptied where it comes after the phase `earlier`
@@ -276,26 +310,38 @@ later_keeps table earlier (p ∷ ps) slot number e h far =
     ∙ step_keeps table earlier p slot number e h (far p (Memᴰ.head refl))
 
 -- phase by phase: c, then c - 1 and c - 2 where not negative
-pub one_live : (table : List ℤ) (earlier c : ℕ) → c < 1 → with_newly_live_empty table earlier c ≡ emptied_if_later table earlier c
-unfolding with_later_empty live_phases
-one_live table earlier zero h = refl
-one_live table earlier (suc c) h = absurd (omega arith)
+abbrev pub with_first_empty : List ℤ → ℕ → ℕ → ℕ → List ℤ
+with_first_empty table earlier c back = with_later_empty table earlier (take back (live_phases c))
 
-pub two_live : (table : List ℤ) (earlier c : ℕ) → 1 ≤ c → c < 2 → with_newly_live_empty table earlier c ≡ emptied_if_later (emptied_if_later table earlier c) earlier (c - 1)
-unfolding with_later_empty live_phases
-two_live table earlier zero h k = absurd (omega arith)
-two_live table earlier (suc zero) h k = refl
-two_live table earlier (suc (suc c)) h k = absurd (omega arith)
+live_few : (c : ℕ) → (length (live_phases c) ≤ slots) × (length (live_phases c) ≤ c + 1)
+unfolding live_phases
+live_few zero = omega arith
+live_few (suc zero) = omega arith
+live_few (suc (suc c)) = omega arith
 
-pub three_live : (table : List ℤ) (earlier c : ℕ) → 2 ≤ c → with_newly_live_empty table earlier c
-    ≡ emptied_if_later (emptied_if_later (emptied_if_later table earlier c) earlier (c - 1)) earlier (c - 2)
-unfolding with_later_empty live_phases
-three_live table earlier zero h = absurd (omega arith)
-three_live table earlier (suc zero) h = absurd (omega arith)
-three_live table earlier (suc (suc c)) h =
-    let one : suc c ≡ suc (suc c) - 1 = omega arith in
-    let two : c ≡ suc (suc c) - 2 = omega arith in
-    ap₂ (λ (p q : ℕ). emptied_if_later (emptied_if_later (emptied_if_later table earlier (suc (suc c))) earlier p) earlier q) one two
+module _ (table : List ℤ) (earlier : ℕ) where
+  pub first_more : (c back p : ℕ) → back < slots → p + back ≡ c → emptied_if_later (with_first_empty table earlier c back) earlier p ≡ with_first_empty table earlier c (back + 1)
+  unfolding with_later_empty live_phases
+  first_more zero zero p h e = let is : p ≡ 0 = omega arith in rw is
+  first_more (suc zero) zero p h e = let is : p ≡ 1 = omega arith in rw is
+  first_more (suc (suc c)) zero p h e = let is : p ≡ suc (suc c) = omega arith in rw is
+  first_more (suc zero) (suc zero) p h e = let is : p ≡ 0 = omega arith in rw is
+  first_more (suc (suc c)) (suc zero) p h e = let is : p ≡ suc c = omega arith in rw is
+  first_more (suc (suc c)) (suc (suc zero)) p h e = let is : p ≡ c = omega arith in rw is
+  first_more zero (suc back) p h e = absurd (omega arith)
+  first_more (suc zero) (suc (suc back)) p h e = absurd (omega arith)
+  first_more (suc (suc c)) (suc (suc (suc back))) p h e = absurd (omega arith)
+
+  pub first_rest : (c back : ℕ) → c < back → with_first_empty table earlier c back ≡ with_first_empty table earlier c (back + 1)
+  first_rest c back h =
+      let few = live_few c in
+      ap (with_later_empty table earlier) (take_all back (live_phases c) (omega arith) ∙ sym (take_all (back + 1) (live_phases c) (omega arith)))
+
+  pub first_all : (c : ℕ) → with_first_empty table earlier c slots ≡ with_newly_live_empty table earlier c
+  first_all c = ap (with_later_empty table earlier) (take_all slots (live_phases c) (live_few c).0)
+
+  pub length_first_empty : (c back : ℕ) → length table ≡ table_words → length (with_first_empty table earlier c back) ≡ table_words
+  length_first_empty c back h = length_later_empty table earlier (take back (live_phases c)) h
 
 module _ (table : List ℤ) (earlier c : ℕ) (sized : length table ≡ table_words) where
   pub length_newly_live_empty : length (with_newly_live_empty table earlier c) ≡ table_words

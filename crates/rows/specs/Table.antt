@@ -31,18 +31,21 @@ row_from table k = record {
 abbrev pub row_place : ℕ → ℕ → ℕ
 row_place slot number = slot_words * slot + row_words * number
 
+-- some words with another row from k on
+abbrev pub with_row_from : List ℤ → ℕ → Row → List ℤ
+with_row_from words k r =
+    set
+    (set (set (set words k r.least_vx) (k + 1) r.greatest_vx) (k + 2) r.least_vy)
+    (k + 3)
+    r.greatest_vy
+
 -- the row of a slot and a curve number
 unfoldable pub row_at : List ℤ → ℕ → ℕ → Row
 row_at table slot number = row_from table (row_place slot number)
 
 -- the table with another row there
 unfoldable pub with_row : List ℤ → ℕ → ℕ → Row → List ℤ
-with_row table slot number r =
-    let k = row_place slot number in
-    set
-    (set (set (set table k r.least_vx) (k + 1) r.greatest_vx) (k + 2) r.least_vy)
-    (k + 3)
-    r.greatest_vy
+with_row table slot number r = with_row_from table (row_place slot number) r
 
 -- the table with that row widened by a drift
 abbrev pub with_drift : List ℤ → ℕ → ℕ → Drift → List ℤ

@@ -2,9 +2,8 @@
 #![tactic(auto)]
 
 ghost use Rattle.std.specs.Prelude.{◌≡◌, ◌<◌, ◌+◌, length};
-ghost use Rattle.ints.specs.Whole.{min_z, max_z, eq_z, between};
 ghost use Rattle.rows.specs.Row.{empty_row, joined, widened, holds, same_row, is_empty, valid_axis, valid_row};
-ghost use Rattle.rows.specs.Table.{row_at, row_from, with_row};
+ghost use Rattle.rows.specs.Table.{row_at, row_from, with_row, with_row_from};
 ghost use Rattle.rows.specs.Needs.{empty_axis, HasRow};
 
 mod phases;
@@ -37,36 +36,12 @@ pub struct Drift {
 }
 
 // The least and the greatest of each speed seen in a cell of a phase.
-#[derive(Clone, Copy)]
+#[derive(Clone, Copy, PartialEq, Eq)]
 pub struct Row {
     pub least_vx: i16,
     pub greatest_vx: i16,
     pub least_vy: i16,
     pub greatest_vy: i16,
-}
-
-pub fn least(a: i16, b: i16) -> i16
-    ensures { result ≡ min_z a b }
-{
-    if a <= b { a } else { b }
-}
-
-pub fn greatest(a: i16, b: i16) -> i16
-    ensures { result ≡ max_z a b }
-{
-    if a <= b { b } else { a }
-}
-
-fn is_between(low: i16, high: i16, v: i16) -> bool
-    ensures { result ≡ between low high v }
-{
-    low <= v && v <= high
-}
-
-pub fn is_same(a: i16, b: i16) -> bool
-    ensures { result ≡ eq_z a b }
-{
-    a <= b && b <= a
 }
 
 impl Row {
@@ -93,10 +68,10 @@ impl Row {
         ensures { result ≡ joined self other }
     {
         Row {
-            least_vx: least(self.least_vx, other.least_vx),
-            greatest_vx: greatest(self.greatest_vx, other.greatest_vx),
-            least_vy: least(self.least_vy, other.least_vy),
-            greatest_vy: greatest(self.greatest_vy, other.greatest_vy),
+            least_vx: self.least_vx.min(other.least_vx),
+            greatest_vx: self.greatest_vx.max(other.greatest_vx),
+            least_vy: self.least_vy.min(other.least_vy),
+            greatest_vy: self.greatest_vy.max(other.greatest_vy),
         }
     }
 
@@ -104,40 +79,37 @@ impl Row {
         ensures { result ≡ widened self drift }
     {
         Row {
-            least_vx: least(self.least_vx, drift.vx),
-            greatest_vx: greatest(self.greatest_vx, drift.vx),
-            least_vy: least(self.least_vy, drift.vy),
-            greatest_vy: greatest(self.greatest_vy, drift.vy),
+            least_vx: self.least_vx.min(drift.vx),
+            greatest_vx: self.greatest_vx.max(drift.vx),
+            least_vy: self.least_vy.min(drift.vy),
+            greatest_vy: self.greatest_vy.max(drift.vy),
         }
     }
 
     pub fn holds(self, drift: Drift) -> bool
         ensures { result ≡ holds self drift }
     {
-        is_between(self.least_vx, self.greatest_vx, drift.vx)
-            && is_between(self.least_vy, self.greatest_vy, drift.vy)
+        (self.least_vx..=self.greatest_vx).contains(&drift.vx)
+            && (self.least_vy..=self.greatest_vy).contains(&drift.vy)
     }
 
     pub fn same(self, other: Row) -> bool
         ensures { result ≡ same_row self other }
     {
-        is_same(self.least_vx, other.least_vx)
-            && (is_same(self.greatest_vx, other.greatest_vx)
-                && (is_same(self.least_vy, other.least_vy)
-                    && is_same(self.greatest_vy, other.greatest_vy)))
+        self == other
     }
 
     pub fn is_empty(self) -> bool
         ensures { result ≡ is_empty self }
     {
-        self.same(Row::empty())
+        self == Row::empty()
     }
 
     // An axis as an empty row has it.
     fn empty_axis(least: i16, greatest: i16) -> bool
         ensures { result ≡ empty_axis least greatest }
     {
-        is_same(least, Row::EMPTY_LEAST) & is_same(greatest, Row::EMPTY_GREATEST)
+        (least == Row::EMPTY_LEAST) & (greatest == Row::EMPTY_GREATEST)
     }
 
     // An axis as a row that is not empty may have it.
@@ -179,33 +151,21 @@ impl Row {
         Row::read_from(table, SLOT_WORDS * slot + ROW_WORDS * number)
     }
 
+    // Written with its first number at k.
+    pub fn write_to(self, words: &mut [i16], k: usize)
+        requires { k + 3 < length words.old }
+        ensures { words.new ≡ with_row_from words.old k self }
+    {
+        words[k] = self.least_vx;
+        words[k + 1] = self.greatest_vx;
+        words[k + 2] = self.least_vy;
+        words[k + 3] = self.greatest_vy;
+    }
+
     pub fn write(self, table: &mut [i16], slot: usize, number: usize)
         requires { HasRow table.old slot number }
         ensures { table.new ≡ with_row table.old slot number self }
     {
-        let k = SLOT_WORDS * slot + ROW_WORDS * number;
-        let a = self.least_vx;
-        let b = self.greatest_vx;
-        let c = self.least_vy;
-        let d = self.greatest_vy;
-        table[k] = a;
-        table[k + 1] = b;
-        table[k + 2] = c;
-        table[k + 3] = d;
+        self.write_to(table, SLOT_WORDS * slot + ROW_WORDS * number);
     }
-}
-
-// A row widened where it stands.
-fn widen_in(row: &mut Row, drift: Drift)
-    ensures { row.new ≡ widened row.old drift }
-{
-    *row = Row::widen(*row, drift);
-}
-
-// A copy of a row, widened. Its contract speaks of values alone, so whoever calls it needs no proof about a reference to a row.
-fn widen_copy(mut row: Row, drift: Drift) -> Row
-    ensures { result ≡ widened row drift }
-{
-    widen_in(&mut row, drift);
-    row
 }

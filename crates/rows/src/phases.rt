@@ -26,7 +26,7 @@ pub fn is_live(c: usize, p: usize) -> bool
     requires { p ≤ last_phase }
     ensures { result ≡ is_live c p }
 {
-    p <= c && c <= p + 2
+    (p..=p + 2).contains(&c)
 }
 
 pub fn slot_of(p: usize) -> usize
