@@ -3,7 +3,7 @@
 -- Assumes nothing.
 use mathlib.Core.Path.{◌≡◌, refl, sym, ap, ap₂, ◌∙◌}
 use mathlib.Core.List.{List, [], ◌∷◌, ◌++◌}
-use Prim.Native.Nat.{ℕ, zero, suc, ◌+◌, ◌*◌, ◌≤◌, ◌<◌}
+use Prim.Native.Nat.{ℕ, zero, suc, ◌+◌, ◌-◌, ◌*◌, ◌≤◌, ◌<◌}
 use native.Mathlib.Nat.{add-zero}
 use native.Mathlib.Numerals.{add-one}
 use native.Mathlib.Omega.{arith}
@@ -15,7 +15,7 @@ use Rattle.rows.specs.Row.{empty_row, joined, bounds_of}
 use Rattle.rows.specs.Table.{row_from, row_place, row_at, slot_rows}
 use Rattle.lanes.specs.Lanes.{lanes, lane_row_count, folded, Folded, lane_row, lane_rows, lane_bounds}
 use Rattle.rows.specs.declared.Row.{Row}
-use Rattle.rows.proofs.RowLaws.{same_numbers, joined_comm, joined_assoc, joined_same, joined_across, bounds_append}
+use Rattle.rows.proofs.RowLaws.{same_numbers, joined_comm, joined_same, joined_across, bounds_append}
 use Rattle.rows.proofs.TableLaws.{row_drop}
 
 -- ---- a fold, number by number
@@ -77,29 +77,18 @@ module _ (block least greatest : List ℤ) (whole : length block ≡ lanes) (lea
       (fold_at min_z block least (4 * j + 2) (omega arith) (omega arith))
       (fold_at max_z block greatest (4 * j + 3) (omega arith) (omega arith))
 
--- one lane row more, behind the others
-lane_row_more : (least greatest : List ℤ) (n j : ℕ)
-    → joined (lane_row least greatest (j + n)) (bounds_of (lane_rows least greatest j n)) ≡ bounds_of (lane_rows least greatest j (suc n))
-unfolding lane_rows bounds_of
-lane_row_more least greatest zero j = let e : j + 0 ≡ j = omega arith in rw e
-lane_row_more least greatest (suc n) j =
-    let e : j + suc n ≡ suc j + n = omega arith in
-    let here = lane_row least greatest j in
-    let last = lane_row least greatest (suc j + n) in
-    let between = bounds_of (lane_rows least greatest (suc j) n) in
-    ap (λ (k : ℕ). joined (lane_row least greatest k) (joined here between)) e
-    ∙ sym (joined_assoc last here between)
-    ∙ ap (λ (r : Row). joined r between) (joined_comm last here)
-    ∙ joined_assoc here last between
-    ∙ ap (joined here) (lane_row_more least greatest n (suc j))
+-- the bounds of the last n lane rows, and of one more
+abbrev pub last_bounds : List ℤ → List ℤ → ℕ → Row
+last_bounds least greatest n = bounds_of (lane_rows least greatest (lane_row_count - n) n)
 
-pub lane_row_next : (least greatest : List ℤ) (n : ℕ) → joined (lane_row least greatest n) (bounds_of (lane_rows least greatest 0 n)) ≡ bounds_of (lane_rows least greatest 0 (n + 1))
-lane_row_next least greatest n =
-    let z : n ≡ 0 + n = omega arith in
-    let s : suc n ≡ n + 1 = omega arith in
-    ap (λ (k : ℕ). joined (lane_row least greatest k) (bounds_of (lane_rows least greatest 0 n))) z
-    ∙ lane_row_more least greatest n 0
-    ∙ ap (λ (k : ℕ). bounds_of (lane_rows least greatest 0 k)) s
+pub last_more : (least greatest : List ℤ) (n : ℕ) → n < lane_row_count
+    → joined (lane_row least greatest (lane_row_count - 1 - n)) (last_bounds least greatest n) ≡ last_bounds least greatest (n + 1)
+unfolding lane_rows bounds_of
+last_more least greatest n h =
+    let first : lane_row_count - (n + 1) ≡ lane_row_count - 1 - n = omega arith in
+    let next : suc (lane_row_count - 1 - n) ≡ lane_row_count - n = omega arith in
+    let count : n + 1 ≡ suc n = omega arith in
+    rw (first, count, next)
 
 pub row_take : (n : ℕ) (table : List ℤ) (k : ℕ) → k + 3 < n → row_from (take n table) k ≡ row_from table k
 row_take n table k h =
