@@ -10,8 +10,8 @@ use native.Mathlib.Numerals.{add-one}
 use native.Mathlib.Decide.{ℕ_discrete}
 use native.Mathlib.Omega.{arith}
 use lib.IntN.{ℤ, pos}
-use lib.ListN.{length, get_or, set, take, drop, length-set}
-use lib.Seq.{get_or-set_same, get_or-set_other, drop-drop}
+use lib.ListN.{length, get_or, take, drop}
+use lib.Seq.{drop-drop}
 use Rattle.ints.specs.Whole.{eq_z}
 use Rattle.ints.proofs.Truth.{and_left, and_right}
 use Rattle.ints.proofs.Same.{same_is}
@@ -27,9 +27,6 @@ use Rattle.lanes.proofs.BoundsLaws.{row_take}
 -- whether those of the first n rows are valid that come from row i on
 abbrev pub valid_from : List ℤ → ℕ → ℕ → Bool
 valid_from words n i = valid_rows (n - i) (drop (4 * i) words)
-
-pub valid_all : (words : List ℤ) (n : ℕ) → valid_from words n 0 ≡ valid_rows n words
-valid_all words n = let e : n - 0 ≡ n = omega arith in ap (λ (x : ℕ). valid_rows x words) e
 
 pub valid_next : (words : List ℤ) (n i : ℕ) → i < n → valid_from words n i ≡ valid_row (row_from words (4 * i)) && valid_from words n (i + 1)
 unfolding valid_rows
@@ -71,21 +68,6 @@ valid_split (suc n) m words =
 pub record JudgedTo (words : List ℤ) (valid : List Bool) (j : ℕ) : Type 0 where
   pub long : length valid ≡ places
   pub done : (i : ℕ) → i < j → get_or valid i false ≡ valid_row (row_from words i)
-
-pub judged_more :
-    (words : List ℤ) (valid : List Bool) (j : ℕ) (here : Bool)
-    → j < places
-    → JudgedTo words valid j
-    → here ≡ valid_row (row_from words j)
-    → JudgedTo words (set valid j here) (j + 1)
-judged_more words valid j here l h e =
-    record {
-      long = length-set valid j here ∙ h.long;
-      done = λ i k.
-          dite (ℕ_discrete i j)
-          (λ same. ap (λ (x : ℕ). get_or (set valid j here) x false) same ∙ get_or-set_same valid j here false (omega (arith, h.long)) ∙ e ∙ ap (λ (x : ℕ). valid_row (row_from words x)) (sym same))
-          (λ other. get_or-set_other valid j i here false other ∙ h.done i (omega arith));
-    }
 
 -- ---- the lanes of rows
 

@@ -340,9 +340,6 @@ module _ (table : List ℤ) (earlier : ℕ) where
   pub first_all : (c : ℕ) → with_first_empty table earlier c slots ≡ with_newly_live_empty table earlier c
   first_all c = ap (with_later_empty table earlier) (take_all slots (live_phases c) (live_few c).0)
 
-  pub length_first_empty : (c back : ℕ) → length table ≡ table_words → length (with_first_empty table earlier c back) ≡ table_words
-  length_first_empty c back h = length_later_empty table earlier (take back (live_phases c)) h
-
 module _ (table : List ℤ) (earlier c : ℕ) (sized : length table ≡ table_words) where
   pub length_newly_live_empty : length (with_newly_live_empty table earlier c) ≡ table_words
   length_newly_live_empty = length_later_empty table earlier (live_phases c) sized
