@@ -12,7 +12,10 @@ use lib.Signed.{le_z, non_neg, mag}
 use mir.Syntax.{w16, w64}
 use mir.Val.{hbits, SFits}
 use Rattle.ints.proofs.Parts.{signed, abs, one_part, sub, true_false}
-use Rattle.ints.proofs.Machine.{back, fits, held, tested₁}
+use Rattle.std.specs.Int.{int_min, int_max}
+use Rattle.std.proofs.lemmas.Int.{ints}
+use Rattle.ints.specs.Whole.{min_z, max_z}
+use Rattle.ints.proofs.Machine.{back, fits, held}
 use Rattle.ints.proofs.Truth.{and_left, and_right}
 use Rattle.grid.specs.Units.{side, cell_size, last_position, speed_limit, last_time}
 use Rattle.grid.specs.Places.{end_at, cell_span, not_below, not_above}
@@ -26,11 +29,10 @@ use Rattle.rows.specs.declared.Row.{Row}
 use Rattle.rows.proofs.RowLaws.{Ranged, valid_cases}
 use Rattle.methods.specs.Reach.{expanded_range, expanded_rect, around_ranges, expanded_window, moved_span, meets, moved_cell_meets, moved_around, moved_around_meets}
 use Rattle.methods.specs.Slices.{earliest, latest}
-use Rattle.reaching.specs.Reaching.{IsAsk, SmallAxis, CanCount, column_around_meets, column_reaches}
+use Rattle.reaching.specs.Reaching.{IsAsk, SmallAxis, CanCount, column_reaches}
 use Rattle.methods.specs.Aims.{aim_of}
 use Rattle.methods.specs.declared.Slice.{Slice}
 use Rattle.methods.specs.declared.View.{View}
-use Rattle.methods.specs.declared.View.TheVariants as View
 use Rattle.methods.specs.declared.Window.{Window}
 use Rattle.methods.proofs.Axis.{expanded_is, meets_expanded}
 use Rattle.methods.proofs.Windows.{around_meets_expanded}
@@ -61,19 +63,18 @@ high_end_test : (last : Bool) (e z : ℤ) → last || le_z z e ≡ not_above (en
 high_end_test true e z = refl
 high_end_test false e z = refl
 
-pub low_end : (i : ℕ) (r z : ℤ) → mag r < 2 ^ hbits w64 → r ≡ pos (cell_size * i) → mag z < 2 ^ hbits w64 → eqb i 0 || le_z (back w64 r) (back w64 z) ≡ not_below (cell_span i).low z
+pub low_end : (i : ℕ) (r z : ℤ) → r ≡ pos (cell_size * i) → mag z < 2 ^ hbits w64 → eqb i 0 || le_z r (back w64 z) ≡ not_below (cell_span i).low z
 unfolding cell_span
-low_end i r z h e k = ap (λ (t : Bool). eqb i 0 || t) (ap₂ le_z (held w64 r h ∙ e) (held w64 z k)) ∙ low_end_test (eqb i 0) (pos (cell_size * i)) z
+low_end i r z e k = ap (λ (t : Bool). eqb i 0 || t) (ap₂ le_z e (held w64 z k)) ∙ low_end_test (eqb i 0) (pos (cell_size * i)) z
 
 pub high_end :
     (i : ℕ) (r z : ℤ)
-    → mag r < 2 ^ hbits w64
     → r ≡ pos (cell_size * i + (cell_size - 1))
     → mag z < 2 ^ hbits w64
-    → eqb i (side - 1) || le_z (back w64 z) (back w64 r) ≡ not_above (cell_span i).high z
+    → eqb i (side - 1) || le_z (back w64 z) r ≡ not_above (cell_span i).high z
 unfolding cell_span
-high_end i r z h e k =
-    ap (λ (t : Bool). eqb i (side - 1) || t) (ap₂ le_z (held w64 z k) (held w64 r h ∙ e))
+high_end i r z e k =
+    ap (λ (t : Bool). eqb i (side - 1) || t) (ap₂ le_z (held w64 z k) e)
     ∙ high_end_test (eqb i (side - 1)) (pos (cell_size * i + (cell_size - 1))) z
 
 -- ---- small numbers
@@ -134,35 +135,21 @@ since_fits {s} {p} can =
     let high = and_right (le_z (pos 0) s) (le_z s (pos last_time)) can.is_time_lem in
     fits (omega (arith, signed, sub s (reference_time p), one_part s, can.small_phase))
 
--- ---- numbers read back from their bits: u is v widened to 64 bits
-
-pub small_back : (z : ℤ) (n : ℕ) → mag z < 2 ^ hbits w64 → nat_abs z ≤ n → nat_abs (back w64 z) ≤ n
-small_back z n h k = rw (held w64 z h) k
-
-wide_is : (u v : ℤ) → mag u < 2 ^ hbits w64 → u ≡ back w16 v → mag v < 2 ^ hbits w16 → back w64 u ≡ v
-wide_is u v h e k = held w64 u h ∙ e ∙ held w16 v k
-
-pub small_wide : (u v : ℤ) (n : ℕ) → mag u < 2 ^ hbits w64 → u ≡ back w16 v → mag v < 2 ^ hbits w16 → nat_abs v ≤ n → nat_abs (back w64 u) ≤ n
-small_wide u v n h e k l = rw (wide_is u v h e k) l
+-- ---- what a call gives back: its arguments were read back from their bits
 
 pub before_is :
-    (r p u v d : ℤ)
+    (r p v d : ℤ)
     → mag r < 2 ^ hbits w64
-    → r ≡ back w64 p -ℤ back w64 u *ℤ back w64 d
+    → r ≡ back w64 p -ℤ back w16 v *ℤ back w64 d
     → mag p < 2 ^ hbits w64
-    → mag d < 2 ^ hbits w64
-    → mag u < 2 ^ hbits w64
-    → u ≡ back w16 v
     → mag v < 2 ^ hbits w16
+    → mag d < 2 ^ hbits w64
     → back w64 r ≡ p -ℤ v *ℤ d
-before_is r p u v d h e hp hd hu ev hv = held w64 r h ∙ e ∙ simp (held w64 p hp, held w64 d hd, wide_is u v hu ev hv)
+before_is r p v d h e hp hv hd = held w64 r h ∙ e ∙ simp (held w64 p hp, held w16 v hv, held w64 d hd)
 
 -- two speeds of a row and d, as a call passes them
 pub axis_back : {r : Range} {l g d : ℤ} → SmallAxis r l g d → mag l < 2 ^ hbits w16 → mag g < 2 ^ hbits w16 → mag d < 2 ^ hbits w64 → SmallAxis r (back w16 l) (back w16 g) (back w64 d)
 axis_back {r} {l} {g} {d} s hl hg hd = rw (held w16 l hl, held w16 g hg, held w64 d hd) s
-
-axis_called : {X : Type 0} (f : ℤ → ℤ → ℤ → X) (r : X) (l g d : ℤ) → r ≡ f (back w16 l) (back w16 g) (back w64 d) → mag l < 2 ^ hbits w16 → mag g < 2 ^ hbits w16 → mag d < 2 ^ hbits w64 → r ≡ f l g d
-axis_called f r l g d e hl hg hd = e ∙ (λ i. f (held w16 l hl i) (held w16 g hg i) (held w64 d hd i))
 
 pub expanded_called :
     (range r : Range) (l g d : ℤ)
@@ -171,93 +158,49 @@ pub expanded_called :
     → mag g < 2 ^ hbits w16
     → mag d < 2 ^ hbits w64
     → r ≡ expanded_range range l g d
-expanded_called range = axis_called (expanded_range range)
+expanded_called range r l g d e hl hg hd = e ∙ (λ i. expanded_range range (held w16 l hl i) (held w16 g hg i) (held w64 d hd i))
 
-pub meets_called :
-    (i : ℕ) (range : Range) (r : Bool) (l g d : ℤ)
-    → r ≡ meets (moved_span (cell_span i) (back w16 l) (back w16 g) (back w64 d)) range
-    → mag l < 2 ^ hbits w16
-    → mag g < 2 ^ hbits w16
-    → mag d < 2 ^ hbits w64
-    → r ≡ meets (moved_span (cell_span i) l g d) range
-meets_called i range = axis_called (λ (l g d : ℤ). meets (moved_span (cell_span i) l g d) range)
+-- the lesser and the greater of two, in the words of std and in those of the definitions
+pub least_is : (a b : ℤ) → int_min a b ≡ min_z a b
+unfolding min_z
+least_is a b = grind (arith, ints)
 
--- the tests of both axes of a timeslice, as calls gave them back
-pub slice_both :
-    (s : Slice) (c : Cell) (row : Row) (r t : Bool)
-    → r ≡ meets (moved_span (cell_span c.column) (back w16 row.least_vx) (back w16 row.greatest_vx) (back w64 s.d)) s.rect.x
-    → mag row.least_vx < 2 ^ hbits w16
-    → mag row.greatest_vx < 2 ^ hbits w16
-    → t ≡ meets (moved_span (cell_span c.row) (back w16 row.least_vy) (back w16 row.greatest_vy) (back w64 s.d)) s.rect.y
-    → mag row.least_vy < 2 ^ hbits w16
-    → mag row.greatest_vy < 2 ^ hbits w16
-    → mag s.d < 2 ^ hbits w64
-    → r && t ≡ moved_cell_meets s c row
-unfolding moved_cell_meets
-slice_both s c row r t x lx gx y ly gy d =
-    ap₂ ◌&&◌ (meets_called c.column s.rect.x r _ _ s.d x lx gx d) (meets_called c.row s.rect.y t _ _ s.d y ly gy d)
+pub greatest_is : (a b : ℤ) → int_max a b ≡ max_z a b
+unfolding max_z
+greatest_is a b = grind (arith, ints)
 
--- the two tests of a column against a range, as calls gave them back
-pub column_both :
-    (i : ℕ) (range : Range) (s t : Bool)
-    → s ≡ not_below (cell_span i).low (back w64 range.high)
-    → mag range.high < 2 ^ hbits w64
-    → t ≡ not_above (cell_span i).high (back w64 range.low)
-    → mag range.low < 2 ^ hbits w64
-    → s && t ≡ not_below (cell_span i).low range.high && not_above (cell_span i).high range.low
-column_both i range s t p h q k =
-    ap₂ ◌&&◌ (tested₁ w64 (not_below (cell_span i).low) s range.high p h) (tested₁ w64 (not_above (cell_span i).high) t range.low q k)
+-- ---- a moved cell meets a range where it meets, where it is, the expanded range: t is the test of that
 
--- a moved column meets a range where it meets the expanded one
-pub meets_moved :
-    (i : ℕ) (l g d : ℤ) (range reach : Range) (t : Bool)
-    → t ≡ not_below (cell_span i).low reach.high && not_above (cell_span i).high reach.low
-    → reach ≡ expanded_range range l g d
-    → t ≡ meets (moved_span (cell_span i) l g d) range
-meets_moved i l g d range reach t p e =
-    p
-    ∙ ap (λ (r : Range). not_below (cell_span i).low r.high && not_above (cell_span i).high r.low) e
-    ∙ sym (meets_expanded (cell_span i) l g d range)
+abbrev is_tested : ℕ → Range → Bool → Type 0
+is_tested i reach t = t ≡ not_below (cell_span i).low reach.high && not_above (cell_span i).high reach.low
 
--- a column moved to both times of a window: it meets a range where it meets, where it is, the range around both expanded ones
+-- along one axis, at one time and at both of a window
+meets_moved : (i : ℕ) (l g d : ℤ) (range reach : Range) (t : Bool) → is_tested i reach t → reach ≡ expanded_range range l g d → t ≡ meets (moved_span (cell_span i) l g d) range
+meets_moved i l g d range reach t p e = rw e at p ∙ sym (meets_expanded (cell_span i) l g d range)
+
 abbrev expanded_both : Range → ℤ → ℤ → Window → Range
 expanded_both range l g w = around_ranges (expanded_range range l g w.first) (expanded_range range l g w.last)
 
-moved_both :
-    (i : ℕ) (l g : ℤ) (w : Window) (range reach : Range) (t : Bool)
-    → t ≡ not_below (cell_span i).low reach.high && not_above (cell_span i).high reach.low
-    → reach ≡ expanded_both range l g w
-    → t ≡ meets (moved_around (cell_span i) l g w) range
-moved_both i l g w range reach t p e =
-    p
-    ∙ ap (λ (r : Range). not_below (cell_span i).low r.high && not_above (cell_span i).high r.low) e
-    ∙ sym (around_meets_expanded (cell_span i) l g w.first w.last range)
+moved_both : (i : ℕ) (l g : ℤ) (w : Window) (range reach : Range) (t : Bool) → is_tested i reach t → reach ≡ expanded_both range l g w → t ≡ meets (moved_around (cell_span i) l g w) range
+moved_both i l g w range reach t p e = rw e at p ∙ sym (around_meets_expanded (cell_span i) l g w.first w.last range)
 
--- a cell moved so: r and t are what the tests of both axes gave back
-module _ (w : Window) (c : Cell) (row : Row) (reach : Rect) (is : reach ≡ expanded_window w row) (r : Bool) where
-  x_is : reach.x ≡ expanded_both w.rect.x row.least_vx row.greatest_vx w
-  unfolding expanded_window expanded_rect
-  x_is = ap (λ (q : Rect). q.x) is
+-- in a view
+pub column_where_reached : (v : View) (c : Cell) (row : Row) (reach : Rect) (t : Bool) → reach ≡ (aim_of v).expanded row → is_tested c.column reach.x t → t ≡ column_reaches v c row
+unfolding expanded_rect expanded_window
+column_where_reached (View.Slice s) c row reach t e p = meets_moved c.column _ _ s.d s.rect.x reach.x t p (ap (λ (q : Rect). q.x) e)
+column_where_reached (View.Window w) c row reach t e p = moved_both c.column _ _ w w.rect.x reach.x t p (ap (λ (q : Rect). q.x) e)
 
-  y_is : reach.y ≡ expanded_both w.rect.y row.least_vy row.greatest_vy w
-  unfolding expanded_window expanded_rect
-  y_is = ap (λ (q : Rect). q.y) is
-
-  pub window_column :
-      r ≡ not_below (cell_span c.column).low reach.x.high && not_above (cell_span c.column).high reach.x.low
-      → r ≡ column_around_meets w c row
-  window_column e = moved_both c.column _ _ w w.rect.x reach.x r e x_is
-
-  pub window_both :
-      (t : Bool)
-      → r ≡ not_below (cell_span c.column).low reach.x.high && not_above (cell_span c.column).high reach.x.low
-      → t ≡ not_below (cell_span c.row).low reach.y.high && not_above (cell_span c.row).high reach.y.low
-      → r && t ≡ moved_around_meets w c row
-  unfolding moved_around_meets
-  window_both t e f =
-      ap₂ ◌&&◌
-      (moved_both c.column _ _ w w.rect.x reach.x r e x_is)
-      (moved_both c.row _ _ w w.rect.y reach.y t f y_is)
+pub cell_where_reached :
+    (v : View) (c : Cell) (row : Row) (reach : Rect) (t u : Bool)
+    → reach ≡ (aim_of v).expanded row
+    → is_tested c.column reach.x t
+    → is_tested c.row reach.y u
+    → t && u ≡ (aim_of v).meets c row
+unfolding expanded_rect expanded_window moved_cell_meets moved_around_meets
+cell_where_reached (View.Slice s) c row reach t u e p q =
+    ap₂ ◌&&◌ (column_where_reached (View.Slice s) c row reach t e p) (meets_moved c.row _ _ s.d s.rect.y reach.y u q (ap (λ (r : Rect). r.y) e))
+cell_where_reached (View.Window w) c row reach t u e p q =
+    ap₂ ◌&&◌ (column_where_reached (View.Window w) c row reach t e p) (moved_both c.row _ _ w w.rect.y reach.y u q (ap (λ (r : Rect). r.y) e))
 
 -- a cell that meets has a column that does
 pub column_of_met : (v : View) (c : Cell) (row : Row) → (aim_of v).meets c row ≡ true → column_reaches v c row ≡ true

@@ -1,7 +1,7 @@
 -- What the functions of reach ask of a timeslice, a window, a row and a cell. The limits keep every sum and product in 64 bits.
 -- Assumes nothing.
-use Rattle.std.specs.Prelude.{◌≡◌, Bool, true, ℕ, suc, ◌≤◌, ◌<◌, ℤ, nat_abs}
-use Rattle.grid.specs.Units.{side, last_position, speed_limit}
+use Rattle.std.specs.Prelude.{◌≡◌, Bool, true, ℕ, suc, ◌≤◌, ℤ, nat_abs}
+use Rattle.grid.specs.Units.{last_position, speed_limit}
 use Rattle.grid.specs.Places.{OnGrid, cell_span}
 use Rattle.grid.specs.Reports.{is_time, is_position}
 use Rattle.grid.specs.declared.Cell.{Cell}
@@ -16,7 +16,6 @@ use Rattle.methods.specs.Reach.{moved_span, meets, moved_around, at_first, at_la
 use Rattle.methods.specs.Slices.{latest, IsSlice}
 use Rattle.methods.specs.declared.Slice.{Slice}
 use Rattle.methods.specs.declared.View.{View}
-use Rattle.methods.specs.declared.View.TheVariants as View
 use Rattle.methods.specs.declared.Window.{Window}
 
 -- a timeslice whose rectangle has its corners in the sea
@@ -54,22 +53,12 @@ pub record CanExpand (s : Slice) (bounds : Row) : Type 0 where
   pub ask : IsAsk s
   pub valid : valid_row bounds ≡ true
 
--- to test a cell moved by its row
-pub record CanMeet (s : Slice) (c : Cell) (row : Row) : Type 0 where
-  pub ask : IsAsk s
-  pub on_grid : OnGrid c
-  pub valid : valid_row row ≡ true
-
--- the same of a window, and of a query of either kind
+-- the same of a window
 pub record CanExpandWindow (w : Window) (bounds : Row) : Type 0 where
   pub ask : IsWindowAsk w
   pub valid : valid_row bounds ≡ true
 
-pub record CanMeetWindow (w : Window) (c : Cell) (row : Row) : Type 0 where
-  pub ask : IsWindowAsk w
-  pub on_grid : OnGrid c
-  pub valid : valid_row row ≡ true
-
+-- the same of a query of either kind, and to test a cell moved by its row
 pub record CanExpandView (v : View) (bounds : Row) : Type 0 where
   pub ask : IsViewAsk v
   pub valid : valid_row bounds ≡ true
@@ -92,11 +81,6 @@ pub record SmallAxis (r : Range) (least greatest d : ℤ) : Type 0 where
   pub small_least : nat_abs least ≤ suc speed_limit
   pub small_greatest : nat_abs greatest ≤ suc speed_limit
   pub small_d : nat_abs d ≤ latest
-
--- to test a column, or a row of cells, moved by speeds
-pub record CanMoveColumn (i : ℕ) (r : Range) (least greatest d : ℤ) : Type 0 where
-  pub column_on : i < side
-  pub small : SmallAxis r least greatest d
 
 -- ---- the column of a cell alone, moved by its row's speeds
 

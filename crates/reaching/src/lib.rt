@@ -1,39 +1,26 @@
 // What a query, seen from a phase, and a cell reach at the speeds of a row. Positions are centimetres, speeds centimetres per second.
 #![tactic(auto)]
 
-ghost use Rattle.std.specs.Prelude.{◌≡◌, ◌&&◌, ◌<◌, ◌^◌, pos, ◌-ℤ◌, ◌*ℤ◌};
+ghost use Rattle.std.specs.Prelude.{◌≡◌, ◌&&◌, ◌<◌, ◌-ℤ◌, ◌*ℤ◌};
 ghost use Rattle.grid.specs.Units.{side};
 ghost use Rattle.grid.specs.Places.{cell_span, not_below, not_above};
-ghost use Rattle.methods.specs.Reach.{expanded_range, expanded_rect, block_of, moved_span, meets, moved_cell_meets};
+ghost use Rattle.methods.specs.Reach.{expanded_range, expanded_rect, block_of};
 ghost use Rattle.methods.specs.Aims.{aim_of, view_of};
 ghost use Rattle.rows.specs.Phases.{since_reference};
-ghost use Rattle.reaching.specs.Reaching.{CanCount, CanSee, CanExpand, CanMeet, CanExpandView, CanMeetView, SmallMotion, SmallAxis, CanMoveColumn, moved_column_meets, column_reaches};
+ghost use Rattle.reaching.specs.Reaching.{CanCount, CanSee, CanExpand, CanExpandView, CanMeetView, SmallMotion, SmallAxis, column_reaches};
 
-use grid::{Cell, Query, Range, Rect, When, wide_signed};
+use grid::{Cell, Query, Range, Rect, When};
 use methods::{Block, Slice, View, Window};
 use rows::Row;
 
 mod windows;
 
-fn wide(v: i16) -> i64
-    ensures { result ≡ v }
-{
-    v as i64
-}
-
-fn whole(n: usize) -> i64
-    requires { n < 2 ^ 31 }
-    ensures { result ≡ pos n }
-{
-    n as i64
-}
-
 // Where a float was d seconds before it was at p, at the speed v.
-fn position_before(p: i64, v: i64, d: i64) -> i64
+fn position_before(p: i64, v: i16, d: i64) -> i64
     requires { SmallMotion p v d }
     ensures { result ≡ p -ℤ v *ℤ d }
 {
-    p - v * d
+    p - i64::from(v) * d
 }
 
 // For both signs of d a speed v leads from p - v * d to p. Below 0 least and greatest are exchanged.
@@ -43,13 +30,13 @@ fn expand_range(range: Range, least: i16, greatest: i16, d: i64) -> Range
 {
     if 0 <= d {
         Range {
-            low: position_before(range.low, wide(greatest), d),
-            high: position_before(range.high, wide(least), d),
+            low: position_before(range.low, greatest, d),
+            high: position_before(range.high, least, d),
         }
     } else {
         Range {
-            low: position_before(range.low, wide(least), d),
-            high: position_before(range.high, wide(greatest), d),
+            low: position_before(range.low, least, d),
+            high: position_before(range.high, greatest, d),
         }
     }
 }
@@ -59,7 +46,7 @@ fn since_reference(time: i32, p: usize) -> i64
     requires { CanCount time p }
     ensures { result ≡ since_reference p time }
 {
-    wide_signed(time) - rows::reference_time(p)
+    i64::from(time) - rows::reference_time(p)
 }
 
 // A query seen from phase p.
@@ -68,17 +55,16 @@ pub fn view_of(query: Query, p: usize) -> View
     ensures { result ≡ view_of p query }
 {
     let rect = query.rect;
-    let when = query.when;
-    match when {
-        When::At(time) => {
-            let d = since_reference(time, p);
-            View::Slice(Slice { rect, d })
-        }
-        When::During(from, to) => {
-            let first = since_reference(from, p);
-            let last = since_reference(to, p);
-            View::Window(Window { rect, first, last })
-        }
+    match query.when {
+        When::At(time) => View::Slice(Slice {
+            rect,
+            d: since_reference(time, p),
+        }),
+        When::During(from, to) => View::Window(Window {
+            rect,
+            first: since_reference(from, p),
+            last: since_reference(to, p),
+        }),
     }
 }
 
@@ -104,32 +90,13 @@ pub fn expanded(v: View, bounds: Row) -> Rect
     }
 }
 
-// Whether the column of a cell, moved by its row's speeds, meets the width of a timeslice's rectangle.
-fn slice_column_meets(s: Slice, c: Cell, row: Row) -> bool
-    requires { CanMeet s c row }
-    ensures { result ≡ moved_column_meets s c row }
-{
-    moved_meets(c.column, row.least_vx, row.greatest_vx, s.rect.x, s.d)
-}
-
-// Whether a cell, moved by its row's speeds, meets the rectangle of a timeslice.
-fn slice_meets(s: Slice, c: Cell, row: Row) -> bool
-    requires { CanMeet s c row }
-    ensures { result ≡ moved_cell_meets s c row }
-{
-    moved_meets(c.column, row.least_vx, row.greatest_vx, s.rect.x, s.d)
-        & moved_meets(c.row, row.least_vy, row.greatest_vy, s.rect.y, s.d)
-}
-
-// Whether a cell, moved by its row's speeds, meets the rectangle.
+// Whether a cell, moved by its row's speeds, meets the rectangle: the cell, where it is, meets the rectangle expanded by these speeds.
 pub fn cell_meets(v: View, c: Cell, row: Row) -> bool
     requires { CanMeetView v c row }
     ensures { result ≡ (aim_of v).meets c row }
 {
-    match v {
-        View::Slice(s) => slice_meets(s, c, row),
-        View::Window(w) => windows::window_meets(w, c, row),
-    }
+    let reach = expanded(v, row);
+    column_meets(c.column, reach.x) & column_meets(c.row, reach.y)
 }
 
 // Whether the column of a cell, moved by its row's speeds, meets the rectangle's width. Where it does not, the cell does not either.
@@ -137,10 +104,7 @@ pub fn column_reaches(v: View, c: Cell, row: Row) -> bool
     requires { CanMeetView v c row }
     ensures { result ≡ column_reaches v c row }
 {
-    match v {
-        View::Slice(s) => slice_column_meets(s, c, row),
-        View::Window(w) => windows::window_column_meets(w, c, row),
-    }
+    column_meets(c.column, expanded(v, row).x)
 }
 
 // Every cell from the column and row of the low corner to those of the high corner.
@@ -161,7 +125,7 @@ fn starts_by(i: usize, z: i64) -> bool
     requires { i < side }
     ensures { result ≡ not_below (cell_span i).low z }
 {
-    (i == 0) | (whole(grid::CELL_SIZE * i) <= z)
+    (i == 0) | ((grid::CELL_SIZE * i) as i64 <= z)
 }
 
 // Whether column i, or row i, ends at z or above. The last has no high end.
@@ -169,7 +133,7 @@ fn ends_from(i: usize, z: i64) -> bool
     requires { i < side }
     ensures { result ≡ not_above (cell_span i).high z }
 {
-    (i == grid::SIDE - 1) | (z <= whole(grid::CELL_SIZE * i + (grid::CELL_SIZE - 1)))
+    (i == grid::SIDE - 1) | (z <= (grid::CELL_SIZE * i + (grid::CELL_SIZE - 1)) as i64)
 }
 
 // Whether column i, or row i, shares a position with a range.
@@ -178,12 +142,4 @@ fn column_meets(i: usize, range: Range) -> bool
     ensures { result ≡ not_below (cell_span i).low range.high && not_above (cell_span i).high range.low }
 {
     starts_by(i, range.high) & ends_from(i, range.low)
-}
-
-// Whether column i, or row i, moved by speeds from least to greatest over d, meets a range: it meets the expanded range where it is.
-fn moved_meets(i: usize, least: i16, greatest: i16, range: Range, d: i64) -> bool
-    requires { CanMoveColumn i range least greatest d }
-    ensures { result ≡ meets (moved_span (cell_span i) least greatest d) range }
-{
-    column_meets(i, expand_range(range, least, greatest, d))
 }
