@@ -6,6 +6,7 @@ ghost use Rattle.std.specs.Prelude.{◌≡◌, true, pos};
 ghost use Rattle.ints.specs.Whole.{up, between};
 ghost use Rattle.rows.specs.Phases.{slot_of};
 ghost use Rattle.methods.specs.Aims.{aim_in};
+ghost use Rattle.methods.specs.Numbered.{number_of};
 ghost use Rattle.choosing.specs.Choose.{ChosenBy};
 ghost use Rattle.records.specs.Records.{records_of};
 ghost use Rattle.records.specs.Words.{words};
@@ -15,6 +16,7 @@ ghost use Rattle.asking.specs.Counted.{CanAsk, CanAskAll, CanAskIn, settled_by_r
 
 use grid::Query;
 use ledger::{Answer, Ask, Refusal};
+use methods::Method;
 use reading::Reading;
 
 // Places for the ids that an ask lists: each live phase lists no more floats than can be held, and reading wants one place more.
@@ -61,12 +63,12 @@ impl Counts {
     }
 }
 
-// The number of a method that passed its check.
-fn number_of(ask: Ask) -> usize
+// The method of an ask whose number passed its check.
+fn method_of(ask: Ask) -> Method
     requires { between (pos 0) (pos 3) ask.method ≡ true }
-    ensures { result ≡ up ask.method }
+    ensures { number_of result ≡ up ask.method }
 {
-    ask.method as usize
+    Method::from_number(ask.method as usize)
 }
 
 // Cells chosen in a live phase by the rows of its slot, as marks, and the rounds of the choice.
@@ -76,8 +78,7 @@ fn choose_in(table: &[i16], p: usize, ask: Ask, marks: &mut [u8; grid::CELLS]) -
 {
     let slot = rows::slot_of(p);
     let view = reaching::view_of(ask.query, p);
-    let number = number_of(ask);
-    choosing::choose::choose(table, slot, number, view, marks)
+    choosing::choose::choose(table, slot, method_of(ask), view, marks)
 }
 
 // Any set of cells of a live phase read, the ids listed to the front of `ids`.

@@ -3,7 +3,7 @@
 -- Assumes nothing.
 use mathlib.Core.Path.{◌≡◌, sym, ap, ap₂, ◌∙◌, subst}
 use mathlib.Core.List.Memᴰ
-use mathlib.Core.List.{List, [], map, Memᴰ}
+use mathlib.Core.List.{List, map, Memᴰ}
 use mathlib.Core.Logic.{⊎_elim, dite}
 use Prim.Native.Nat.{ℕ, zero, suc, ◌+◌, ◌-◌, ◌≤◌, ◌<◌}
 use native.Mathlib.Decide.{ℕ_discrete}
@@ -12,7 +12,7 @@ use native.Mathlib.Omega.{arith}
 use lib.IntN.{ℤ}
 use Rattle.grid.specs.Units.{cells}
 use Rattle.grid.specs.Places.{OnGrid}
-use Rattle.grid.specs.Curve.{IsCurve, cell, curve_number, cell_of_number}
+use Rattle.grid.specs.Curve.{cell, curve_number, cell_of_number}
 use Rattle.grid.proofs.CurveLaws.{cell_on_grid, number_of_its_cell, number_below}
 use Rattle.rows.specs.Row.{empty_row, joined, bounds_of}
 use Rattle.rows.specs.Table.{row_at, slot_rows}
@@ -81,19 +81,17 @@ bounds_so_far rows b e p = e ∙ ap (λ (k : ℕ). bounds_after k rows b) p
 
 -- of the cells left, the pass can go on by some that lie in one row
 pub can_go_on :
-    {numbers : List ℕ} {table : List ℤ} {slot : ℕ} {b : Block} {k row left n : ℕ} {before : Row}
-    → IsCurve numbers
-    → CanBoundAfter k table slot b
+    {rows : Rows} {b : Block} {k row left n : ℕ} {before : Row}
+    → CanBoundAfter k b
     → b.first_row ≤ row
     → cells_before b row + left ≡ k
-    → before ≡ bounds_after (cells_before b row) (rows_of_slot table slot) b
+    → before ≡ bounds_after (cells_before b row) rows b
     → n ≤ columns_of b
     → n ≤ left
-    → CanGoOn numbers table slot b row n before
-can_go_on curve can from_first so-many so_far in_row few =
+    → CanGoOn rows b row n before
+can_go_on can from_first so-many so_far in_row few =
     record {
-      curve = curve;
-      of_block = can.of_block;
+      block_on = can.block_on;
       from_first = from_first;
       in_row = in_row;
       of_its_cells = omega (arith, can.of_its_cells);

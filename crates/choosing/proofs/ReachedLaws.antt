@@ -1,6 +1,6 @@
 -- What the code of reached relies on: the places of all cells, a list that grows by those that pass, and that the cells marked are the optimal method's.
 -- Assumes nothing.
-use mathlib.Core.Path.{◌≡◌, refl, sym, ap, ap₂, ◌∙◌, subst}
+use mathlib.Core.Path.{◌≡◌, refl, sym, ap, ◌∙◌, subst}
 use mathlib.Core.Bool.{Bool, true, false, not, cond}
 use mathlib.Core.List.Memᴰ
 use mathlib.Core.List.{List, [], ◌∷◌, ◌++◌, map, append_assoc, append-nil, Memᴰ}
@@ -12,8 +12,8 @@ use native.Mathlib.Omega.{arith}
 use borrow.Author.Tests.{ne_eqb}
 use lib.Bits.{bit_or}
 use lib.Dec.{eqb}
-use lib.ListN.{length, get_or, set, take, drop, replicate, length-set, length-replicate, length-drop, get_or-replicate, drop_of_length-le}
-use lib.Seq.{get_or-set_same, get_or-set_other, set-get_or, lt-length-set, ext_get_or, drop-cons, get_or-take, length-take-le, take-set-le, take-suc-set}
+use lib.ListN.{length, get_or, set, take, drop, replicate, length-set, length-replicate, get_or-replicate, drop_of_length-le}
+use lib.Seq.{get_or-set_same, get_or-set_other, set-get_or, lt-length-set, ext_get_or, drop-cons, take-set-le, take-suc-set}
 use mir.Val.{bool_byte}
 use Rattle.ints.specs.Lists.{passing}
 use Rattle.ints.proofs.Lists.{element_in, passing_in, passing_has, passing_append, map-has, map_in}
@@ -152,29 +152,14 @@ lists_nonempty rows full k h = record { room = h.0; places_are = h.1 }
 
 -- ---- the numbers of a list, one by one
 
-module _ (full : List ℕ) (k : ℕ) (room : k ≤ length full) where
-  front_long : length (take k full) ≡ k
-  front_long = length-take-le k full room
+pub next_number : (ps : List ℕ) (i : ℕ) → i < length ps → drop i ps ≡ get_or ps i 0 ∷ drop (i + 1) ps
+next_number ps i h = rw (add-one, drop-cons ps i 0)
 
-  pub numbers_left : (i : ℕ) → length (drop i (take k full)) ≡ k - i
-  numbers_left i = length-drop i (take k full) ∙ ap (λ (n : ℕ). n - i) front_long
+pub no_number : (ps : List ℕ) (i : ℕ) → length ps ≤ i → drop i ps ≡ []
+no_number ps i h = drop_of_length-le ps h
 
-  pub front_fits : (out : List ℕ) → k ≤ length out → length (take k full) ≤ length out
-  front_fits out h = omega (arith, front_long)
-
-  pub next_number : (i : ℕ) → i < k → drop i (take k full) ≡ get_or full i 0 ∷ drop (i + 1) (take k full)
-  next_number i h =
-      drop-cons (take k full) i 0 (omega (arith, front_long))
-      ∙ ap₂ (λ (n j : ℕ). n ∷ drop j (take k full)) (get_or-take k full i 0 h) (sym (add-one i))
-
-  pub no_number : (i : ℕ) → k ≤ i → drop i (take k full) ≡ []
-  no_number i h = let long : length (take k full) ≤ i = omega (arith, front_long) in drop_of_length-le (take k full) long
-
-  pub place_at : ArePlaces (take k full) → (i : ℕ) → i < k → get_or full i 0 < cells
-  place_at are i h =
-      let there = element_in 0 (take k full) i (omega (arith, front_long)) in
-      let small = are (get_or (take k full) i 0) there in
-      omega (arith, get_or-take k full i 0 h)
+pub place_at : {ps : List ℕ} → ArePlaces ps → (i : ℕ) → i < length ps → get_or ps i 0 < cells
+place_at {ps} are i h = are (get_or ps i 0) (element_in 0 ps i h)
 
 pub listed_places : {rows : Rows} {full : List ℕ} {k : ℕ} → ListsNonempty rows full k → ArePlaces (take k full)
 listed_places {rows} l place m =
@@ -212,13 +197,12 @@ module _ (rows : Rows) (aim : Aim) where
   pub met_more : (place : ℕ) (ps : List ℕ) → meeting rows aim (place ∷ ps) ≡ meeting rows aim (place ∷ []) ++ meeting rows aim ps
   met_more place ps = passing_append is_met (cell_at place ∷ []) (map cell_at ps)
 
-  pub met_next : (full : List ℕ) (k i : ℕ) → k ≤ length full → i < k
-      → meeting rows aim (drop i (take k full)) ≡ meeting rows aim (get_or full i 0 ∷ []) ++ meeting rows aim (drop (i + 1) (take k full))
-  met_next full k i room h = ap (meeting rows aim) (next_number full k room i h) ∙ met_more (get_or full i 0) (drop (i + 1) (take k full))
+  pub met_next : (ps : List ℕ) (i : ℕ) → i < length ps → meeting rows aim (drop i ps) ≡ meeting rows aim (get_or ps i 0 ∷ []) ++ meeting rows aim (drop (i + 1) ps)
+  met_next ps i h = ap (meeting rows aim) (next_number ps i h) ∙ met_more (get_or ps i 0) (drop (i + 1) ps)
 
-  pub met_none : (full : List ℕ) (k i : ℕ) → k ≤ length full → k ≤ i → meeting rows aim (drop i (take k full)) ≡ []
+  pub met_none : (ps : List ℕ) (i : ℕ) → length ps ≤ i → meeting rows aim (drop i ps) ≡ []
   unfolding passing
-  met_none full k i room h = ap (meeting rows aim) (no_number full k room i h)
+  met_none ps i h = ap (meeting rows aim) (no_number ps i h)
 
 -- a place whose column does not meet can be left out
 module _ (rows : Rows) (v : View) where

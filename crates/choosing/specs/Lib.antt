@@ -1,4 +1,5 @@
 pub mod Bounds
 pub mod Mark
 pub mod Reached
+pub mod Slot
 pub mod Choose

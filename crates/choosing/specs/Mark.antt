@@ -1,15 +1,17 @@
 -- What the functions of mark ask, and what marking some cells comes to.
 -- Assumes nothing.
-use Rattle.std.specs.Prelude.{◌≡◌, List, ℕ, ◌<◌, ℤ, length, replicate}
+use Rattle.std.specs.Prelude.{◌≡◌, List, ℕ, ◌<◌, length, replicate}
 use Rattle.grid.specs.Units.{side, cells}
 use Rattle.grid.specs.Places.{OnGrid}
 use Rattle.grid.specs.Curve.{IsCurve}
 use Rattle.grid.specs.declared.Cell.{Cell}
+use Rattle.methods.specs.Claims.{ValidRows}
 use Rattle.methods.specs.Marks.{with_cells}
+use Rattle.methods.specs.Methods.{Rows}
 use Rattle.methods.specs.declared.Block.{Block}
 use Rattle.methods.specs.declared.View.{View}
 use Rattle.reaching.specs.Reaching.{IsViewAsk}
-use Rattle.choosing.specs.Bounds.{IsSlot, BlockOnGrid}
+use Rattle.choosing.specs.Bounds.{BlockOnGrid}
 
 -- no mark is set
 unfoldable pub no_marks : List ℕ
@@ -37,7 +39,7 @@ pub record CanMarkCell (numbers : List ℕ) (c : Cell) (marks : List ℕ) : Type
 
 -- ---- to search from a block
 
-pub record CanSearch (table : List ℤ) (slot : ℕ) (v : View) (b : Block) : Type 0 where
-  pub of_slot : IsSlot table slot
+pub record CanSearch (rows : Rows) (v : View) (b : Block) : Type 0 where
+  pub valid : ValidRows rows
   pub ask : IsViewAsk v
   pub block_on : BlockOnGrid b

@@ -1,19 +1,18 @@
 -- The cells of the grid by place, row by row from the low corner, those whose rows are nonempty, those of them that meet the rectangle; and what the
 -- functions of reached ask.
 -- Assumes nothing.
-use Rattle.std.specs.Prelude.{◌≡◌, Bool, not, ℕ, zero, suc, ◌/◌, ◌%◌, ◌≤◌, ◌<◌, ℤ, length, get_or, take}
+use Rattle.std.specs.Prelude.{◌≡◌, Bool, not, ℕ, zero, suc, ◌/◌, ◌%◌, ◌≤◌, ◌<◌, length, get_or, take}
 use mathlib.Core.List.{List, [], ◌∷◌, map, Memᴰ}
 use Rattle.ints.specs.Lists.{passing}
 use Rattle.grid.specs.Units.{side, cells}
-use Rattle.grid.specs.Curve.{cell, IsCurve}
+use Rattle.grid.specs.Curve.{cell}
 use Rattle.grid.specs.declared.Cell.{Cell}
 use Rattle.rows.specs.Row.{is_empty}
-use Rattle.rows.specs.Needs.{HasSlot}
 use Rattle.methods.specs.Aims.{Aim}
+use Rattle.methods.specs.Claims.{ValidRows}
 use Rattle.methods.specs.Methods.{Rows}
 use Rattle.methods.specs.declared.View.{View}
 use Rattle.reaching.specs.Reaching.{IsViewAsk, column_reaches}
-use Rattle.choosing.specs.Bounds.{IsSlot}
 use Rattle.choosing.specs.Mark.{no_marks}
 
 -- ---- places
@@ -50,20 +49,6 @@ may_meet rows v place = column_reaches v (cell_at place) (rows (cell_at place))
 pub record IsPlace (place : ℕ) : Type 0 where
   pub within : place < cells
 
-pub record CanLookUpPlace (numbers : List ℕ) (place : ℕ) : Type 0 where
-  pub curve : IsCurve numbers
-  pub is_place : IsPlace place
-
-pub record CanReadPlace (numbers : List ℕ) (table : List ℤ) (slot place : ℕ) : Type 0 where
-  pub curve : IsCurve numbers
-  pub has_slot : HasSlot table slot
-  pub is_place : IsPlace place
-
-pub record CanList (numbers : List ℕ) (table : List ℤ) (slot : ℕ) (full : List ℕ) : Type 0 where
-  pub curve : IsCurve numbers
-  pub has_slot : HasSlot table slot
-  pub one_each : length full ≡ cells
-
 -- no mark is anything but 0 or 1
 abbrev pub Bits : List ℕ → Type 0
 Bits marks = (n : ℕ) → n < length marks → get_or marks n 0 ≤ 1
@@ -73,23 +58,20 @@ pub record ListsNonempty (rows : Rows) (full : List ℕ) (k : ℕ) : Type 0 wher
   pub room : k ≤ length full
   pub places_are : take k full ≡ nonempty rows places
 
-pub record CanTestPlace (numbers : List ℕ) (table : List ℤ) (slot : ℕ) (v : View) (place : ℕ) : Type 0 where
-  pub curve : IsCurve numbers
-  pub of_slot : IsSlot table slot
+pub record CanTestPlace (rows : Rows) (v : View) (place : ℕ) : Type 0 where
+  pub valid : ValidRows rows
   pub ask : IsViewAsk v
   pub is_place : IsPlace place
 
--- the front of a list has places alone
+-- a list has places alone
 abbrev pub ArePlaces : List ℕ → Type 0
 ArePlaces ps = (place : ℕ) → Memᴰ place ps → place < cells
 
-pub record CanKeep (numbers : List ℕ) (table : List ℤ) (slot : ℕ) (v : View) (full : List ℕ) (k : ℕ) (kept : List ℕ) : Type 0 where
-  pub curve : IsCurve numbers
-  pub of_slot : IsSlot table slot
+pub record CanKeep (rows : Rows) (v : View) (listed kept : List ℕ) : Type 0 where
+  pub valid : ValidRows rows
   pub ask : IsViewAsk v
-  pub room : k ≤ length full
-  pub all_places : ArePlaces (take k full)
-  pub few : k ≤ cells
+  pub all_places : ArePlaces listed
+  pub few : length listed ≤ cells
   pub one_each : length kept ≡ cells
 
 -- what is kept of some places, over the front of a list
@@ -97,24 +79,21 @@ pub record KeepsColumns (rows : Rows) (v : View) (ps kept : List ℕ) (m : ℕ) 
   pub room : m ≤ length kept
   pub kept_are : take m kept ≡ passing (may_meet rows v) ps
 
-pub record CanMarkPlace (numbers : List ℕ) (table : List ℤ) (slot : ℕ) (v : View) (place : ℕ) (marks : List ℕ) : Type 0 where
-  pub curve : IsCurve numbers
-  pub of_slot : IsSlot table slot
+pub record CanMarkPlace (rows : Rows) (v : View) (place : ℕ) (marks : List ℕ) : Type 0 where
+  pub valid : ValidRows rows
   pub ask : IsViewAsk v
   pub is_place : IsPlace place
   pub one_each : length marks ≡ cells
   pub bits : Bits marks
 
-pub record CanMarkListed (numbers : List ℕ) (table : List ℤ) (slot : ℕ) (v : View) (full : List ℕ) (k : ℕ) (marks : List ℕ) : Type 0 where
-  pub curve : IsCurve numbers
-  pub of_slot : IsSlot table slot
+pub record CanMarkListed (rows : Rows) (v : View) (listed marks : List ℕ) : Type 0 where
+  pub valid : ValidRows rows
   pub ask : IsViewAsk v
-  pub room : k ≤ length full
-  pub all_places : ArePlaces (take k full)
+  pub all_places : ArePlaces listed
   pub one_each : length marks ≡ cells
   pub bits : Bits marks
 
-pub record CanMarkReached (table : List ℤ) (slot : ℕ) (v : View) (marks : List ℕ) : Type 0 where
-  pub of_slot : IsSlot table slot
+pub record CanMarkReached (rows : Rows) (v : View) (marks : List ℕ) : Type 0 where
+  pub valid : ValidRows rows
   pub ask : IsViewAsk v
   pub none_set : marks ≡ no_marks

@@ -1,128 +1,131 @@
-// The four methods, each by its number, over the rows of one slot of a lent table.
+// The four methods over the rows of one slot of a lent table.
 ghost use Rattle.rows.specs.Row.{empty_row};
 ghost use Rattle.methods.specs.Aims.{aim_of};
-ghost use Rattle.methods.specs.Methods.{cells_found, unless_missing, expanded_block, iterated, most_rounds};
-ghost use Rattle.methods.specs.Slots.{rows_of_slot};
-ghost use Rattle.choosing.specs.Choose.{FoundIs, SearchIs, ChosenBy, CanChoose, CanChooseBlock, CanChooseWithin};
-ghost use Rattle.choosing.specs.Mark.{Marked, CanMarkBlock, CanSearch};
+ghost use Rattle.methods.specs.Methods.{cells_found, expanded_block, naive_block, semi_naive_block, iterative_search, iterated, most_rounds};
+ghost use Rattle.methods.specs.Numbered.{number_of};
+ghost use Rattle.choosing.specs.Choose.{found_of, FoundIs, SearchIs, ChosenBy, CanChoose, CanFind, CanMarkFound};
+ghost use Rattle.choosing.specs.Mark.{Marked, CanSearch};
+ghost use Rattle.choosing.specs.Slot.{rows_in};
 ghost use Rattle.reaching.specs.Reaching.{CanExpandView};
 
+use crate::Searched;
 use crate::bounds::{block_bounds, phase_bounds};
 use crate::mark::{clear, mark_block};
 use crate::reached::mark_reached;
-use crate::{FoundBlock, Searched};
-use methods::{Block, View};
+use crate::slot::SlotRows;
+use methods::{Block, Method, View};
 use reaching::{block_of, expanded};
 use rows::Row;
 
 // The most rounds of the iterative method: more than columns and rows of any block allow.
 const MOST_ROUNDS: usize = grid::SIDE + grid::SIDE;
 
-// The block of the rectangle expanded by bounds.
-fn expanded_block(bounds: Row, view: View) -> FoundBlock
+// The block of the rectangle expanded by bounds, or none where they are missing.
+fn expanded_block(bounds: Row, view: View) -> Option<Block>
     requires { CanExpandView view bounds }
     ensures { FoundIs result (expanded_block bounds (aim_of view)) }
 {
-    FoundBlock {
-        missing: bounds.is_empty(),
-        block: block_of(expanded(view, bounds)),
+    if bounds.is_empty() {
+        return None;
     }
+    Some(block_of(expanded(view, bounds)))
 }
 
-// Marks the cells of a block, if there is one.
-fn mark_found(f: FoundBlock, marks: &mut [u8])
-    requires { CanMarkBlock f.block marks.old }
-    ensures { Marked marks.old (cells_found (unless_missing f.missing f.block)) marks.new }
+// The naive method's block: expanded by the phase's bounds.
+fn naive_block(rows: &SlotRows, view: View) -> Option<Block>
+    requires { CanFind (rows_in rows.now) view }
+    ensures { FoundIs result (naive_block (rows_in rows.now) (aim_of view)) }
 {
-    if f.missing {
-        return;
-    }
-    mark_block(f.block, marks);
+    expanded_block(phase_bounds(rows), view)
+}
+
+// The semi-naive method's block: expanded by the bounds of the naive block's rows.
+fn semi_naive_block(rows: &SlotRows, view: View) -> Option<Block>
+    requires { CanFind (rows_in rows.now) view }
+    ensures { FoundIs result (semi_naive_block (rows_in rows.now) (aim_of view)) }
+{
+    let naive = naive_block(rows, view)?;
+    expanded_block(block_bounds(rows, naive), view)
 }
 
 // The rounds of the iterative method, from the naive block.
-fn search(table: &[i16], slot: usize, view: View, naive: Block) -> Searched
-    requires { CanSearch table.now slot view naive }
-    ensures { SearchIs result (iterated most_rounds (rows_of_slot table.now slot) (aim_of view) empty_row naive 0) }
+fn search(rows: &SlotRows, view: View, naive: Block) -> Searched
+    requires { CanSearch (rows_in rows.now) view naive }
+    ensures { SearchIs result (iterated most_rounds (rows_in rows.now) (aim_of view) empty_row naive 0) }
 {
     let mut before = Row::empty();
     let mut block = naive;
-    let mut rounds = 0;
-    while rounds < MOST_ROUNDS {
-        let bounds = block_bounds(table, slot, block);
+    for rounds in 0..MOST_ROUNDS {
+        let bounds = block_bounds(rows, block);
         if bounds.is_empty() {
             return Searched {
-                found: FoundBlock {
-                    missing: true,
-                    block: block,
-                },
+                found: None,
                 rounds: rounds + 1,
             };
         }
         if bounds.same(before) {
-            break;
+            return Searched {
+                found: Some(block),
+                rounds,
+            };
         }
         before = bounds;
         block = block_of(expanded(view, bounds));
-        rounds += 1;
     }
     Searched {
-        found: FoundBlock {
-            missing: false,
-            block: block,
+        found: Some(block),
+        rounds: MOST_ROUNDS,
+    }
+}
+
+// What the iterative method comes to: where there is no naive block, none in no round.
+fn iterative_search(rows: &SlotRows, view: View) -> Searched
+    requires { CanFind (rows_in rows.now) view }
+    ensures { SearchIs result (iterative_search (rows_in rows.now) (aim_of view) (naive_block (rows_in rows.now) (aim_of view))) }
+{
+    match naive_block(rows, view) {
+        None => Searched {
+            found: None,
+            rounds: 0,
         },
-        rounds: rounds,
+        Some(naive) => search(rows, view, naive),
     }
 }
 
-// The choice of one of the methods that read a block, where the naive block is found, and its rounds: no mark is set yet.
-fn choose_within(
-    table: &[i16],
-    slot: usize,
-    method: usize,
-    view: View,
-    naive: Block,
-    marks: &mut [u8],
-) -> usize
-    requires { CanChooseWithin table.now slot method view naive marks.old }
-    ensures { ChosenBy method table.now slot (aim_of view) marks.new result }
+// Marks the cells of a block, if there is one.
+fn mark_found(found: Option<Block>, marks: &mut [u8])
+    requires { CanMarkFound found marks.old }
+    ensures { Marked marks.old (cells_found (found_of found)) marks.new }
 {
-    if method == 0 {
-        mark_block(naive, marks);
-        return 0;
+    if let Some(block) = found {
+        mark_block(block, marks);
     }
-    if method == 1 {
-        let narrowed = expanded_block(block_bounds(table, slot, naive), view);
-        mark_found(narrowed, marks);
-        return 0;
-    }
-    let s = search(table, slot, view, naive);
-    mark_found(s.found, marks);
-    s.rounds
-}
-
-// The choice of one of the methods that read a block, and its rounds: no mark is set yet.
-fn choose_block(table: &[i16], slot: usize, method: usize, view: View, marks: &mut [u8]) -> usize
-    requires { CanChooseBlock table.now slot method view marks.old }
-    ensures { ChosenBy method table.now slot (aim_of view) marks.new result }
-{
-    let naive = expanded_block(phase_bounds(table, slot), view);
-    if naive.missing {
-        return 0;
-    }
-    choose_within(table, slot, method, view, naive.block, marks)
 }
 
 // The choice of a method, as marks by curve number, and its rounds. How many cells are marked is not given: cells are counted where they are read.
-// Every number from 3 on is the optimal method.
-pub fn choose(table: &[i16], slot: usize, method: usize, view: View, marks: &mut [u8]) -> usize
+pub fn choose(table: &[i16], slot: usize, method: Method, view: View, marks: &mut [u8]) -> usize
     requires { CanChoose table.now slot view marks.old }
-    ensures { ChosenBy method table.now slot (aim_of view) marks.new result }
+    ensures { ChosenBy (number_of method) table.now slot (aim_of view) marks.new result }
 {
     clear(marks);
-    if method < 3 {
-        return choose_block(table, slot, method, view, marks);
+    let rows = SlotRows::new(table, slot);
+    match method {
+        Method::Naive => {
+            mark_found(naive_block(&rows, view), marks);
+            0
+        }
+        Method::SemiNaive => {
+            mark_found(semi_naive_block(&rows, view), marks);
+            0
+        }
+        Method::Iterative => {
+            let searched = iterative_search(&rows, view);
+            mark_found(searched.found, marks);
+            searched.rounds
+        }
+        Method::Optimal => {
+            mark_reached(&rows, view, marks);
+            0
+        }
     }
-    mark_reached(table, slot, view, marks);
-    0
 }

@@ -5,19 +5,13 @@ pub mod bounds;
 pub mod choose;
 pub mod mark;
 pub mod reached;
+pub mod slot;
 
 use methods::Block;
 
-// A block, or none where bounds are missing.
-#[derive(Clone, Copy)]
-pub struct FoundBlock {
-    pub missing: bool,
-    pub block: Block,
-}
-
-// What the iterative method comes to, and the rounds that it took.
+// What the iterative method comes to, a block or none where bounds are missing, and the rounds that it took.
 #[derive(Clone, Copy)]
 pub struct Searched {
-    pub found: FoundBlock,
+    pub found: Option<Block>,
     pub rounds: usize,
 }

@@ -13,11 +13,7 @@ pub fn clear(marks: &mut [u8])
     requires { length marks.old ≡ cells }
     ensures { marks.new ≡ no_marks }
 {
-    let mut n = 0;
-    while n < grid::CELLS {
-        marks[n] = 0;
-        n += 1;
-    }
+    marks.fill(0);
 }
 
 // Marks a cell. Here and below `numbers` is the grid's table of curve numbers, which a pass holds from its first cell to its last.
@@ -25,8 +21,7 @@ fn mark_cell(numbers: &[u16; grid::CELLS], c: Cell, marks: &mut [u8])
     requires { CanMarkCell numbers.now c marks.old }
     ensures { marks.new ≡ with_cells marks.old (c ∷ []) }
 {
-    let n = grid::number_in(numbers, c);
-    marks[n] = 1;
+    marks[grid::number_in(numbers, c)] = 1;
 }
 
 // Marks a block's cells of one row.
@@ -34,17 +29,8 @@ fn mark_row(numbers: &[u16; grid::CELLS], b: Block, row: usize, marks: &mut [u8]
     requires { CanMarkRow numbers.now b row marks.old }
     ensures { Marked marks.old (cells_of_row row b.first_column (columns_of b)) marks.new }
 {
-    let mut column = b.first_column;
-    while column <= b.last_column {
-        mark_cell(
-            numbers,
-            Cell {
-                column: column,
-                row: row,
-            },
-            marks,
-        );
-        column += 1;
+    for column in b.first_column..=b.last_column {
+        mark_cell(numbers, Cell { column, row }, marks);
     }
 }
 
@@ -54,9 +40,7 @@ pub fn mark_block(b: Block, marks: &mut [u8])
     ensures { Marked marks.old (cells_of b) marks.new }
 {
     let numbers = grid::curve_numbers();
-    let mut row = b.first_row;
-    while row <= b.last_row {
+    for row in b.first_row..=b.last_row {
         mark_row(&numbers, b, row, marks);
-        row += 1;
     }
 }

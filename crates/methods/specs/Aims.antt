@@ -19,7 +19,6 @@ use Rattle.rows.specs.declared.Row.{Row}
 use Rattle.methods.specs.Reach.{expanded_rect, moved_cell_meets, expanded_window, moved_around_meets}
 use Rattle.methods.specs.declared.Slice.{Slice}
 use Rattle.methods.specs.declared.View.{View}
-use Rattle.methods.specs.declared.View.TheVariants as View
 use Rattle.methods.specs.declared.Window.{Window}
 
 -- all that a method knows of an ask: the rectangle expanded by bounds, and whether a cell, moved by its row's speeds, meets the rectangle

@@ -8,3 +8,4 @@ pub mod Marks
 pub mod Slices
 pub mod Claims
 pub mod Examples
+pub mod Numbered

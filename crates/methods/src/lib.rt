@@ -2,6 +2,9 @@
 // windows. The code is in crates/choosing.
 #![tactic(auto)]
 
+ghost use Rattle.std.specs.Prelude.{◌≡◌, min};
+ghost use Rattle.methods.specs.Numbered.{number_of};
+
 use grid::Rect;
 
 // A timeslice query seen from a phase's reference time: its rectangle, at d seconds after that time, or before it where d is below 0.
@@ -33,4 +36,27 @@ pub struct Block {
     pub last_column: usize,
     pub first_row: usize,
     pub last_row: usize,
+}
+
+// The four ways to choose cells.
+#[derive(Clone, Copy)]
+pub enum Method {
+    Naive,
+    SemiNaive,
+    Iterative,
+    Optimal,
+}
+
+impl Method {
+    // The method of a number; every number from 3 on is the optimal method.
+    pub fn from_number(number: usize) -> Method
+        ensures { number_of result ≡ min number 3 }
+    {
+        match number {
+            0 => Method::Naive,
+            1 => Method::SemiNaive,
+            2 => Method::Iterative,
+            _ => Method::Optimal,
+        }
+    }
 }
