@@ -7,11 +7,10 @@ use mathlib.Core.List.{List, map, Memᴰ}
 use mathlib.Core.Logic.{⊎_elim, dite}
 use Prim.Native.Nat.{ℕ, zero, suc, ◌+◌, ◌-◌, ◌≤◌, ◌<◌}
 use native.Mathlib.Decide.{ℕ_discrete}
-use native.Mathlib.Nat.{mul-zero, zero-mul, suc-mul, lt_of_mul-lt-mul_left, lt_of_mul-lt-mul_right}
+use native.Mathlib.Nat.{zero-mul, lt_of_mul-lt-mul_right}
 use native.Mathlib.Omega.{arith}
 use lib.IntN.{ℤ}
 use Rattle.grid.specs.Units.{cells}
-use Rattle.grid.specs.Places.{OnGrid}
 use Rattle.grid.specs.Curve.{cell, curve_number, cell_of_number}
 use Rattle.grid.proofs.CurveLaws.{cell_on_grid, number_of_its_cell, number_below}
 use Rattle.rows.specs.Row.{empty_row, joined, bounds_of}
@@ -19,7 +18,7 @@ use Rattle.rows.specs.Table.{row_at, slot_rows}
 use Rattle.rows.specs.declared.Row.{Row}
 use Rattle.rows.proofs.TableLaws.{valid_row-at}
 use Rattle.rows.proofs.RowLaws.{bounds_grow, within_antisym}
-use Rattle.methods.specs.Reach.{columns_of, rows_of, cells_of, whole_grid, InBlock}
+use Rattle.methods.specs.Reach.{columns_of, rows_of, cells_of, whole_grid}
 use Rattle.methods.specs.Methods.{Rows, bounds_in, phase_bounds}
 use Rattle.methods.specs.BoundsInOnePass.{cell_count, visited, bounds_after}
 use Rattle.methods.specs.Slots.{rows_of_slot}
@@ -27,13 +26,9 @@ use Rattle.methods.specs.Claims.{ValidRows}
 use Rattle.methods.specs.declared.Block.{Block}
 use Rattle.methods.proofs.Blocks.{grid_has, within_grid_on}
 use Rattle.methods.proofs.BoundsInOnePass.{blocks_are_visited_row_by_row, after_none, after_one_more}
-use Rattle.choosing.specs.Bounds.{IsSlot, BlockOnGrid, CanBoundAfter, cells_before, CanGoOn}
+use Rattle.choosing.specs.Bounds.{IsSlot, cells_before}
 
 -- ---- the pass over a block
-
--- a block with a cell has a column, and a row before whose end a cell is left is one of its rows
-pub has_column : (b : Block) → 0 < cell_count b → 0 < columns_of b
-has_column b h = lt_of_mul-lt-mul_left (rows_of b) (omega (arith, mul-zero (rows_of b)))
 
 pub is_row : (b : Block) (row : ℕ) → cells_before b row < cell_count b → row - b.first_row < rows_of b
 is_row b row h = lt_of_mul-lt-mul_right (columns_of b) h
@@ -43,11 +38,6 @@ module _ (b : Block) (row done : ℕ) (from_first : b.first_row ≤ row) (in_row
   in_turn_lem : visited b (cells_before b row + done) ≡ cell (b.first_column + done) row
   in_turn_lem =
       (blocks_are_visited_row_by_row b).in_turn_lem (row - b.first_row) done (is_row b row (omega arith)) in_row ∙ ap (cell (b.first_column + done)) (omega arith)
-
-  pub turn_on_grid : BlockOnGrid b → OnGrid (cell (b.first_column + done) row)
-  turn_on_grid on =
-      let inside = subst (InBlock b) in_turn_lem ((blocks_are_visited_row_by_row b).in_block (cells_before b row + done) more) in
-      record { column_on = omega (arith, inside.to_column, on.columns_on); row_on = omega (arith, inside.to_row, on.rows_on) }
 
   -- r joins that cell's row to the bounds so far
   pub bounds_one_more :
@@ -71,32 +61,8 @@ no_row b =
 pub bounds_at_first : (rows : Rows) (b : Block) {r : Row} → r ≡ empty_row → r ≡ bounds_after (cells_before b b.first_row) rows b
 bounds_at_first rows b e = e ∙ sym (after_none rows b) ∙ sym (ap (λ (k : ℕ). bounds_after k rows b) (no_row b))
 
-pub row_more : (b : Block) (row : ℕ) → b.first_row ≤ row → cells_before b row + columns_of b ≡ cells_before b (row + 1)
-row_more b row h =
-    let one : row + 1 - b.first_row ≡ suc (row - b.first_row) = omega arith in
-    rw one (omega (arith, suc-mul (row - b.first_row) (columns_of b)))
-
 pub bounds_so_far : (rows : Rows) (b : Block) {r : Row} {k n : ℕ} → r ≡ bounds_after k rows b → k ≡ n → r ≡ bounds_after n rows b
 bounds_so_far rows b e p = e ∙ ap (λ (k : ℕ). bounds_after k rows b) p
-
--- of the cells left, the pass can go on by some that lie in one row
-pub can_go_on :
-    {rows : Rows} {b : Block} {k row left n : ℕ} {before : Row}
-    → CanBoundAfter k b
-    → b.first_row ≤ row
-    → cells_before b row + left ≡ k
-    → before ≡ bounds_after (cells_before b row) rows b
-    → n ≤ columns_of b
-    → n ≤ left
-    → CanGoOn rows b row n before
-can_go_on can from_first so-many so_far in_row few =
-    record {
-      block_on = can.block_on;
-      from_first = from_first;
-      in_row = in_row;
-      of_its_cells = omega (arith, can.of_its_cells);
-      so_far = so_far;
-    }
 
 -- ---- the rows of a slot
 

@@ -15,7 +15,7 @@ use Rattle.rows.proofs.RowLaws.{bounds_valid}
 use Rattle.methods.specs.Reach.{block_of, cells_of}
 use Rattle.methods.specs.Aims.{Aim}
 use Rattle.methods.specs.Fair.{Fair}
-use Rattle.methods.specs.Methods.{Rows, Found, missing, found, cells_found, unless_missing, bounds_in, expanded_block, naive_block, narrowed_block, semi_naive_block, Search, iterated, iterative_search, most_rounds, choice}
+use Rattle.methods.specs.Methods.{Rows, Found, found, cells_found, unless_missing, bounds_in, expanded_block, naive_block, semi_naive_block, Search, iterated, iterative_search, most_rounds, choice}
 use Rattle.methods.specs.Slots.{rows_of_slot}
 use Rattle.choosing.specs.Bounds.{IsSlot, BlockOnGrid}
 use Rattle.choosing.specs.Slot.{rows_in}
@@ -27,7 +27,6 @@ use Rattle.std.specs.Prelude.{Option, None, Some}
 use Rattle.choosing.specs.Mark.{no_marks, Marked}
 use Rattle.choosing.specs.Reached.{places, nonempty, meeting}
 use Rattle.methods.specs.declared.Block.{Block}
-use Rattle.choosing.specs.declared.Searched.{Searched}
 use Rattle.methods.proofs.Nesting.{all_valid}
 use Rattle.choosing.proofs.ReachedLaws.{optimal_marks}
 use Rattle.methods.proofs.Rounds.{none_is, same_is, onward_is}
@@ -101,31 +100,6 @@ module _ (w : Row) (aim : Aim) where
   unfolding expanded_block
   expanded_some {b} e p =
       record { found_is = ap found p ∙ ap (λ (t : Bool). unless_missing t (block_of (aim.expanded w))) (sym e); block_on = subst BlockOnGrid (sym p) (block_on_grid (aim.expanded w)) }
-
--- the bounds that a block was expanded by, as a call gave them back
-pub found_by : {r : Option Block} {v w : Row} (aim : Aim) → v ≡ w → FoundIs r (expanded_block v aim) → FoundIs r (expanded_block w aim)
-found_by {r} aim e p = subst (λ (x : Row). FoundIs r (expanded_block x aim)) e p
-
--- what was found, where it is none and where it is a block
-pub found_none : {r : Option Block} {f : Found} → FoundIs r f → r ≡ None → f ≡ missing
-found_none p e = sym p.found_is ∙ ap found_of e
-
-pub found_some : {r : Option Block} {b : Block} {f : Found} → FoundIs r f → r ≡ Some b → f ≡ found b
-found_some p e = sym p.found_is ∙ ap found_of e
-
--- a method that reads the naive block, where there is none and where it is b
-module _ (rows : Rows) (aim : Aim) where
-  pub semi_naive_none : naive_block rows aim ≡ missing → FoundIs None (semi_naive_block rows aim)
-  semi_naive_none e = record { found_is = ap (narrowed_block rows aim) (sym e); block_on = tt }
-
-  pub semi_naive_some : {b : Block} {r : Option Block} → naive_block rows aim ≡ found b → FoundIs r (expanded_block (bounds_in rows b) aim) → FoundIs r (semi_naive_block rows aim)
-  semi_naive_some {r = r} e p = subst (FoundIs r) (ap (narrowed_block rows aim) (sym e)) p
-
-  pub search_none : naive_block rows aim ≡ missing → SearchIs (record { found = None; rounds = 0 }) (iterative_search rows aim (naive_block rows aim))
-  search_none e = rw e (record { block_is = record { found_is = refl; block_on = tt }; rounds_are = refl })
-
-  pub search_some : {b : Block} {r : Searched} → naive_block rows aim ≡ found b → SearchIs r (iterated most_rounds rows aim empty_row b 0) → SearchIs r (iterative_search rows aim (naive_block rows aim))
-  search_some e p = rw e p
 
 -- ---- what each method chooses, where no mark is set before
 

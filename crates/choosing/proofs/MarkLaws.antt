@@ -2,30 +2,14 @@
 -- Assumes nothing.
 use mathlib.Core.Path.{◌≡◌, refl, sym, ap, ◌∙◌}
 use mathlib.Core.List.{List, [], ◌∷◌, ◌++◌}
-use mathlib.Core.Logic.{dite}
-use Prim.Native.Nat.{ℕ, ◌+◌, ◌<◌}
-use native.Mathlib.Decide.{ℕ_discrete}
-use native.Mathlib.Omega.{arith}
-use lib.ListN.{length, get_or, set, replicate, length-replicate, get_or-replicate}
-use lib.Seq.{get_or-set_same, get_or-set_other, ext_get_or}
+use Prim.Native.Nat.{ℕ}
+use lib.ListN.{length, set, length-replicate}
 use Rattle.grid.specs.Units.{cells}
 use Rattle.grid.specs.declared.Cell.{Cell}
 use Rattle.methods.specs.Marks.{with_cells}
 use Rattle.choosing.specs.Mark.{no_marks, Marked}
 
--- ---- clearing
-
-pub cleared_more : (marks : List ℕ) (n : ℕ) → n < length marks → ((k : ℕ) → k < n → get_or marks k 0 ≡ 0) → (k : ℕ) → k < n + 1 → get_or (set marks n 0) k 0 ≡ 0
-cleared_more marks n h before k l =
-    dite (ℕ_discrete k n)
-    (λ e. ap (λ (j : ℕ). get_or (set marks n 0) j 0) e ∙ get_or-set_same marks n 0 0 h)
-    (λ e. get_or-set_other marks n k 0 0 e ∙ before k (omega arith))
-
-pub cleared_all : (marks : List ℕ) → length marks ≡ cells → ((k : ℕ) → k < cells → get_or marks k 0 ≡ 0) → marks ≡ no_marks
-unfolding no_marks
-cleared_all marks e h =
-    ext_get_or 0 marks (replicate cells 0) (e ∙ sym (length-replicate {A = ℕ} cells 0))
-    (λ i l. h i (omega arith) ∙ sym (get_or-replicate {A = ℕ} cells i 0 0 (omega arith)))
+-- ---- no marks
 
 pub no_marks-length : {marks : List ℕ} → marks ≡ no_marks → length marks ≡ cells
 unfolding no_marks

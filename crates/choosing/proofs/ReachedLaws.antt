@@ -10,7 +10,6 @@ use native.Mathlib.Decide.{ℕ_discrete}
 use native.Mathlib.Numerals.{add-one}
 use native.Mathlib.Omega.{arith}
 use borrow.Author.Tests.{ne_eqb}
-use lib.Bits.{bit_or}
 use lib.Dec.{eqb}
 use lib.ListN.{length, get_or, set, take, drop, replicate, length-set, length-replicate, get_or-replicate, drop_of_length-le}
 use lib.Seq.{get_or-set_same, get_or-set_other, set-get_or, lt-length-set, ext_get_or, drop-cons, take-set-le, take-suc-set}
@@ -21,7 +20,7 @@ use Rattle.ints.proofs.Parts.{true_false}
 use Rattle.ints.proofs.Truth.{and_true, and_left, and_right}
 use Rattle.grid.specs.Units.{side, cells}
 use Rattle.grid.specs.Places.{OnGrid}
-use Rattle.grid.specs.Curve.{cell, curve_number, IsCurve}
+use Rattle.grid.specs.Curve.{cell, curve_number}
 use Rattle.grid.specs.declared.Cell.{Cell}
 use Rattle.rows.specs.Row.{is_empty}
 use Rattle.methods.specs.Aims.{Aim, aim_of}
@@ -44,11 +43,6 @@ byte_small false = omega arith
 
 pub place_on : (place : ℕ) → place < cells → OnGrid (cell_at place)
 place_on place h = record { column_on = omega arith; row_on = omega arith }
-
-pub place_numbered : (numbers : List ℕ) (place : ℕ) → IsCurve numbers → place < cells → get_or numbers place 0 ≡ curve_number (cell_at place)
-place_numbered numbers place curve h =
-    let e : place ≡ place / side * side + place % side = omega arith in
-    ap (λ (n : ℕ). get_or numbers n 0) e ∙ curve.numbered (cell_at place) (place_on place h)
 
 -- the place of a cell
 abbrev place_of : Cell → ℕ
@@ -274,13 +268,6 @@ pub bits_kept : {marks after : List ℕ} {cs : List Cell} → Bits marks → Mar
 bits_kept {marks} {after} {cs} b m n h =
     let l : n < length marks = omega (arith, ap length m.marks_are, with_length marks cs) in
     rw m.marks_are (bit_after marks cs n l (b n l))
-
-pub bit_or_lem : (x : ℕ) (b : Bool) → x ≤ 1 → bit_or x (bool_byte b) ≡ cond b 1 x
-bit_or_lem zero true h = refl
-bit_or_lem zero false h = refl
-bit_or_lem (suc zero) true h = refl
-bit_or_lem (suc zero) false h = refl
-bit_or_lem (suc (suc x)) b h = absurd (omega arith)
 
 marks_long : (cs : List Cell) → length (marks_of cs) ≡ cells
 marks_long cs = with_length (replicate cells 0) cs ∙ length-replicate {A = ℕ} cells 0
