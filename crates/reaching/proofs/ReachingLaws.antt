@@ -29,7 +29,7 @@ use Rattle.rows.specs.declared.Row.{Row}
 use Rattle.rows.proofs.RowLaws.{Ranged, valid_cases}
 use Rattle.methods.specs.Reach.{expanded_range, expanded_rect, around_ranges, expanded_window, moved_span, meets, moved_cell_meets, moved_around, moved_around_meets}
 use Rattle.methods.specs.Slices.{earliest, latest}
-use Rattle.reaching.specs.Reaching.{IsAsk, SmallAxis, CanCount, column_reaches}
+use Rattle.reaching.specs.Reaching.{IsAsk, SmallAxis, CanCount, column_in, cell_in, column_reaches}
 use Rattle.methods.specs.Aims.{aim_of}
 use Rattle.methods.specs.declared.Slice.{Slice}
 use Rattle.methods.specs.declared.View.{View}
@@ -171,36 +171,34 @@ greatest_is a b = grind (arith, ints)
 
 -- ---- a moved cell meets a range where it meets, where it is, the expanded range: t is the test of that
 
-abbrev is_tested : ℕ → Range → Bool → Type 0
-is_tested i reach t = t ≡ not_below (cell_span i).low reach.high && not_above (cell_span i).high reach.low
-
 -- along one axis, at one time and at both of a window
-meets_moved : (i : ℕ) (l g d : ℤ) (range reach : Range) (t : Bool) → is_tested i reach t → reach ≡ expanded_range range l g d → t ≡ meets (moved_span (cell_span i) l g d) range
+pub meets_moved : (i : ℕ) (l g d : ℤ) (range reach : Range) (t : Bool) → t ≡ column_in i reach → reach ≡ expanded_range range l g d → t ≡ meets (moved_span (cell_span i) l g d) range
 meets_moved i l g d range reach t p e = rw e at p ∙ sym (meets_expanded (cell_span i) l g d range)
 
 abbrev expanded_both : Range → ℤ → ℤ → Window → Range
 expanded_both range l g w = around_ranges (expanded_range range l g w.first) (expanded_range range l g w.last)
 
-moved_both : (i : ℕ) (l g : ℤ) (w : Window) (range reach : Range) (t : Bool) → is_tested i reach t → reach ≡ expanded_both range l g w → t ≡ meets (moved_around (cell_span i) l g w) range
+moved_both : (i : ℕ) (l g : ℤ) (w : Window) (range reach : Range) (t : Bool) → t ≡ column_in i reach → reach ≡ expanded_both range l g w → t ≡ meets (moved_around (cell_span i) l g w) range
 moved_both i l g w range reach t p e = rw e at p ∙ sym (around_meets_expanded (cell_span i) l g w.first w.last range)
 
 -- in a view
-pub column_where_reached : (v : View) (c : Cell) (row : Row) (reach : Rect) (t : Bool) → reach ≡ (aim_of v).expanded row → is_tested c.column reach.x t → t ≡ column_reaches v c row
+pub column_where_reached : (v : View) (c : Cell) (row : Row) (reach : Rect) (t : Bool) → reach ≡ (aim_of v).expanded row → t ≡ column_in c.column reach.x → t ≡ column_reaches v c row
 unfolding expanded_rect expanded_window
 column_where_reached (View.Slice s) c row reach t e p = meets_moved c.column _ _ s.d s.rect.x reach.x t p (ap (λ (q : Rect). q.x) e)
 column_where_reached (View.Window w) c row reach t e p = moved_both c.column _ _ w w.rect.x reach.x t p (ap (λ (q : Rect). q.x) e)
 
-pub cell_where_reached :
-    (v : View) (c : Cell) (row : Row) (reach : Rect) (t u : Bool)
-    → reach ≡ (aim_of v).expanded row
-    → is_tested c.column reach.x t
-    → is_tested c.row reach.y u
-    → t && u ≡ (aim_of v).meets c row
+pub cell_where_reached : (v : View) (c : Cell) (row : Row) (reach : Rect) (t : Bool) → reach ≡ (aim_of v).expanded row → t ≡ cell_in c reach → t ≡ (aim_of v).meets c row
 unfolding expanded_rect expanded_window moved_cell_meets moved_around_meets
-cell_where_reached (View.Slice s) c row reach t u e p q =
-    ap₂ ◌&&◌ (column_where_reached (View.Slice s) c row reach t e p) (meets_moved c.row _ _ s.d s.rect.y reach.y u q (ap (λ (r : Rect). r.y) e))
-cell_where_reached (View.Window w) c row reach t u e p q =
-    ap₂ ◌&&◌ (column_where_reached (View.Window w) c row reach t e p) (moved_both c.row _ _ w w.rect.y reach.y u q (ap (λ (r : Rect). r.y) e))
+cell_where_reached (View.Slice s) c row reach t e p =
+    p
+    ∙ ap₂ ◌&&◌
+    (column_where_reached (View.Slice s) c row reach _ e refl)
+    (meets_moved c.row _ _ s.d s.rect.y reach.y _ refl (ap (λ (r : Rect). r.y) e))
+cell_where_reached (View.Window w) c row reach t e p =
+    p
+    ∙ ap₂ ◌&&◌
+    (column_where_reached (View.Window w) c row reach _ e refl)
+    (moved_both c.row _ _ w w.rect.y reach.y _ refl (ap (λ (r : Rect). r.y) e))
 
 -- a cell that meets has a column that does
 pub column_of_met : (v : View) (c : Cell) (row : Row) → (aim_of v).meets c row ≡ true → column_reaches v c row ≡ true

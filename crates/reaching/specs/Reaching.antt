@@ -1,12 +1,13 @@
 -- What the functions of reach ask of a timeslice, a window, a row and a cell. The limits keep every sum and product in 64 bits.
 -- Assumes nothing.
-use Rattle.std.specs.Prelude.{◌≡◌, Bool, true, ℕ, suc, ◌≤◌, ℤ, nat_abs}
+use Rattle.std.specs.Prelude.{◌≡◌, Bool, true, ◌&&◌, ℕ, suc, ◌≤◌, ℤ, nat_abs}
 use Rattle.grid.specs.Units.{last_position, speed_limit}
-use Rattle.grid.specs.Places.{OnGrid, cell_span}
+use Rattle.grid.specs.Places.{OnGrid, cell_span, not_below, not_above}
 use Rattle.grid.specs.Reports.{is_time, is_position}
 use Rattle.grid.specs.declared.Cell.{Cell}
 use Rattle.grid.specs.declared.Query.{Query}
 use Rattle.grid.specs.declared.Range.{Range}
+use Rattle.grid.specs.declared.Rect.{Rect}
 use Rattle.grid.specs.declared.When.{When}
 use Rattle.grid.specs.declared.When.TheVariants.{At, During}
 use Rattle.rows.specs.Row.{valid_row}
@@ -81,6 +82,14 @@ pub record SmallAxis (r : Range) (least greatest d : ℤ) : Type 0 where
   pub small_least : nat_abs least ≤ suc speed_limit
   pub small_greatest : nat_abs greatest ≤ suc speed_limit
   pub small_d : nat_abs d ≤ latest
+
+-- ---- a column, or a row of cells, that shares a position with a range, and a cell that shares one with a rectangle
+
+abbrev pub column_in : ℕ → Range → Bool
+column_in i r = not_below (cell_span i).low r.high && not_above (cell_span i).high r.low
+
+abbrev pub cell_in : Cell → Rect → Bool
+cell_in c q = column_in c.column q.x && column_in c.row q.y
 
 -- ---- the column of a cell alone, moved by its row's speeds
 
