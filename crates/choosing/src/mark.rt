@@ -16,7 +16,8 @@ pub fn clear(marks: &mut [u8])
     marks.fill(0);
 }
 
-// Marks a cell. Here and below `numbers` is the grid's table of curve numbers, which a pass holds from its first cell to its last.
+// Marks a cell. Here and below `numbers` is the grid's table of curve numbers, which a pass holds from its first cell to its last. No slot is asked for, as
+// SlotRows would.
 fn mark_cell(numbers: &[u16; grid::CELLS], c: Cell, marks: &mut [u8])
     requires { CanMarkCell numbers.now c marks.old }
     ensures { marks.new ≡ with_cells marks.old (c ∷ []) }

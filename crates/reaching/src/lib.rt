@@ -79,7 +79,7 @@ fn expanded_slice(s: Slice, bounds: Row) -> Rect
     }
 }
 
-// The rectangle expanded by bounds.
+// The rectangle expanded by bounds. No trait over Slice and Window stands in place of this match: which kind a view is shows only when it is asked for.
 pub fn expanded(v: View, bounds: Row) -> Rect
     requires { CanExpandView v bounds }
     ensures { result ≡ (aim_of v).expanded bounds }
