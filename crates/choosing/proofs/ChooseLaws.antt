@@ -128,6 +128,10 @@ module _ {table : List ℤ} {slot : ℕ} {aim : Aim} {before : List ℕ} (clear 
   iterative_chosen m r = record { marks_are = rw clear at m.marks_are; rounds_are = r }
 
   -- the cells that are reached, of all cells of the grid
-  pub optimal_chosen : ValidRows (rows_of_slot table slot) → Fair aim → Marked before (meeting (rows_of_slot table slot) aim (nonempty (rows_of_slot table slot) places)) marks → ChosenBy 3 table slot aim marks 0
+  pub optimal_chosen :
+      ValidRows (rows_of_slot table slot)
+      → Fair aim
+      → Marked before (meeting (rows_of_slot table slot) aim (nonempty (rows_of_slot table slot) places)) marks
+      → ChosenBy 3 table slot aim marks 0
   unfolding choice no_marks
   optimal_chosen valid fair m = record { marks_are = rw clear at m.marks_are ∙ optimal_marks (rows_of_slot table slot) valid aim fair; rounds_are = refl }
