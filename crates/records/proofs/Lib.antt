@@ -1,3 +1,4 @@
+pub mod BitsLaws
 pub mod RecordsLaws
 pub mod PlacesLaws
 pub mod SoundnessRangeLaws

@@ -1,6 +1,6 @@
 -- Keys: the slot and the curve number of a key, the live phase with a slot, and what a right key says.
 -- Assumes nothing.
-use mathlib.Core.Path.{◌≡◌, sym, ap, ◌∙◌}
+use mathlib.Core.Path.{◌≡◌, refl, sym, ap, ◌∙◌}
 use mathlib.Core.Bool.{true}
 use mathlib.Core.List.{List, [], ◌∷◌}
 use mathlib.Core.Logic.{dite}
@@ -58,6 +58,10 @@ later : (p : ℕ) (ps : List ℕ) (slot : ℕ) → (slot_of p ≡ slot → ⊥) 
 unfolding phase_with_slot
 later p ps slot n = rw (ne_eqb (slot_of p) slot n)
 
+none : (slot : ℕ) → phase_with_slot [] slot ≡ 0
+unfolding phase_with_slot
+none slot = refl
+
 -- how far the phase with a slot lies back from the current phase
 abbrev pub back_to : ℕ → ℕ → ℕ
 back_to c slot = (c % slots + slots - slot) % slots
@@ -72,20 +76,20 @@ no_such_slot (suc (suc c)) slot h =
     ∙ later (suc c) (c ∷ []) slot (λ e. omega (arith, slot_on (suc c)))
     ∙ later c [] slot (λ e. omega (arith, slot_on c))
 
-pub phase_too_far : (c slot : ℕ) → slot < slots → c < back_to c slot → phase_with_slot (live_phases c) slot ≡ 0
-unfolding live_phases phase_with_slot slot_of
-phase_too_far zero slot h b = later 0 [] slot (λ e. omega arith)
-phase_too_far (suc zero) slot h b = later 1 (0 ∷ []) slot (λ e. omega arith) ∙ later 0 [] slot (λ e. omega arith)
-phase_too_far (suc (suc c)) slot h b = absurd (omega arith)
-
-pub phase_back : (c slot : ℕ) → slot < slots → back_to c slot ≤ c → phase_with_slot (live_phases c) slot ≡ c - back_to c slot
+-- as far back as the slots differ, and 0 where that is before phase 0
+pub phase_back : (c slot : ℕ) → slot < slots → phase_with_slot (live_phases c) slot ≡ c - back_to c slot
 unfolding live_phases slot_of
-phase_back zero slot h b = first 0 [] slot (omega arith) ∙ omega arith
-phase_back (suc zero) slot h b =
+phase_back zero slot h =
+    dite (ℕ_discrete (slot_of 0) slot)
+    (λ e. first 0 [] slot e ∙ omega arith)
+    (λ n. later 0 [] slot n ∙ none slot ∙ omega arith)
+phase_back (suc zero) slot h =
     dite (ℕ_discrete (slot_of 1) slot)
     (λ e. first 1 (0 ∷ []) slot e ∙ omega arith)
-    (λ n. later 1 (0 ∷ []) slot n ∙ first 0 [] slot (omega arith) ∙ omega arith)
-phase_back (suc (suc c)) slot h b =
+    (λ n. later 1 (0 ∷ []) slot n ∙ dite (ℕ_discrete (slot_of 0) slot)
+    (λ e. first 0 [] slot e ∙ omega arith)
+    (λ m. later 0 [] slot m ∙ none slot ∙ omega arith))
+phase_back (suc (suc c)) slot h =
     dite (ℕ_discrete (slot_of (suc (suc c))) slot)
     (λ e. first (suc (suc c)) (suc c ∷ c ∷ []) slot e ∙ omega arith)
     (λ n.
@@ -96,18 +100,12 @@ phase_back (suc (suc c)) slot h b =
 
 -- it is live, for each of the three slots: where no live phase has the slot, phase 0 is live still
 pub with_slot_live : (c slot : ℕ) → slot < slots → is_live c (phase_with_slot (live_phases c) slot) ≡ true
-with_slot_live c slot h =
-    dite (dec_lt c (back_to c slot))
-    (λ b. let e = phase_too_far c slot h b in range_live c _ (omega arith) (omega arith))
-    (λ n. let b : back_to c slot ≤ c = omega arith in let e = phase_back c slot h b in range_live c _ (omega arith) (omega arith))
+with_slot_live c slot h = let e = phase_back c slot h in range_live c _ (omega arith) (omega arith)
 
 pub phase_of_key-small : (c : ℕ) (key : ℤ) → phase_of_key c key ≤ c
 phase_of_key-small c key =
     dite (dec_lt (slot_of_key key) slots)
-    (λ h.
-    dite (dec_lt c (back_to c (slot_of_key key)))
-    (λ b. omega (arith, phase_too_far c (slot_of_key key) h b))
-    (λ n. let b : back_to c (slot_of_key key) ≤ c = omega arith in omega (arith, phase_back c (slot_of_key key) h b)))
+    (λ h. omega (arith, phase_back c (slot_of_key key) h))
     (λ n. let b : slots ≤ slot_of_key key = omega arith in omega (arith, no_such_slot c (slot_of_key key) b))
 
 -- ---- a right key
@@ -138,8 +136,7 @@ pub live-phase_of_key : (c p : ℕ) (r : Report) → is_live c p ≡ true → ph
 unfolding slot_of
 live-phase_of_key c p r live =
     let range = live_range c p live in
-    let b : back_to c (slot_of p) ≤ c = omega arith in
-    ap (phase_with_slot (live_phases c)) (slot_of-key_in p r) ∙ phase_back c (slot_of p) (slot_on p) b ∙ omega arith
+    ap (phase_with_slot (live_phases c)) (slot_of-key_in p r) ∙ phase_back c (slot_of p) (slot_on p) ∙ omega arith
 
 pub placed_right : (now : ℤ) (p : ℕ) (r : Report) → is_live (phase_of now) p ≡ true → phase_of r.t ≤ p → key_is_right now (record { key = key_in p r; report = r }) ≡ true
 unfolding key_is_right

@@ -2,19 +2,19 @@
 -- Assumes nothing.
 use mathlib.Core.Path.{◌≡◌, refl, sym, ap, ap₂, ◌∙◌}
 use mathlib.Core.Bool.{Bool, true, false, ◌&&◌, and_assoc, and-true}
-use mathlib.Core.List.{List, [], ◌∷◌}
+use mathlib.Core.List.{List, [], ◌∷◌, ◌++◌}
 use mathlib.Core.Logic.{dite}
-use Prim.Native.Nat.{ℕ, suc, ◌+◌, ◌-◌, ◌*◌, ◌≤◌, ◌<◌}
+use Prim.Native.Nat.{ℕ, suc, ◌+◌, ◌-◌, ◌*◌, ◌/◌, ◌≤◌, ◌<◌}
 use native.Mathlib.Decide.{dec_lt}
 use native.Mathlib.Numerals.{add-one}
 use native.Mathlib.Omega.{arith}
 use lib.IntN.{ℤ, pos}
-use lib.ListN.{length, get_or, drop, drop_of_length-le}
-use lib.Seq.{drop-cons, drop-drop}
+use lib.ListN.{length, get_or, drop, drop_of_length-le, length-append, get_or-append}
+use lib.Seq.{drop-cons, drop-drop, drop_at}
 use Rattle.ints.specs.Lists.{every}
 use Rattle.ints.specs.Whole.{eq_z}
 use Rattle.ints.proofs.Truth.{and_left, and_right}
-use Rattle.records.specs.Records.{record_words, record_from, read_records}
+use Rattle.records.specs.Records.{record_words, record_from, read_records, all_records}
 use Rattle.records.specs.Order.{precedes, is_sorted}
 use Rattle.records.specs.Soundness.{all_zero, is_ranged, all_ranged}
 use Rattle.records.specs.declared.Record.{Record}
@@ -36,7 +36,62 @@ module _ (w : List ℤ) (i : ℕ) (zero : Bool) (e : all_zero w ≡ zero && all_
   unfolding every
   zero_to_the_end h = sym (e ∙ ap (λ (t : Bool). zero && t) (ap all_zero (drop_of_length-le w h)) ∙ and-true zero)
 
--- ---- records
+-- ---- the first record of some words, and those after it
+
+-- first: its words; w: the words after it
+module _ (first w : List ℤ) (seven : length first ≡ record_words) where
+  words_of_first : (k : ℕ) → k < record_words → get_or (first ++ w) k (pos 0) ≡ get_or first k (pos 0)
+  words_of_first k h = get_or-append first w (pos 0) k (omega arith)
+
+  first_is : record_from (first ++ w) 0 ≡ record_from first 0
+  first_is = λ i. record {
+    key = words_of_first 0 (omega arith) i;
+    report = record {
+      id = words_of_first 1 (omega arith) i;
+      t = words_of_first 2 (omega arith) i;
+      x = words_of_first 3 (omega arith) i;
+      y = words_of_first 4 (omega arith) i;
+      vx = words_of_first 5 (omega arith) i;
+      vy = words_of_first 6 (omega arith) i;
+    };
+  }
+
+  pub first_and_rest : all_records (first ++ w) ≡ record_from first 0 ∷ all_records w
+  unfolding read_records
+  first_and_rest =
+      let e : length (first ++ w) / record_words ≡ suc (length w / record_words) = omega (arith, length-append first w) in
+      ap (λ (n : ℕ). read_records n (first ++ w)) e ∙ ap₂ ◌∷◌ first_is (ap (read_records (length w / record_words)) (drop_at first w record_words seven))
+
+pub no_record : (w : List ℤ) → length w < record_words → all_records w ≡ []
+unfolding read_records
+no_record w h = let e : length w / record_words ≡ 0 = omega arith in ap (λ (n : ℕ). read_records n w) e
+
+-- a turn of a loop over the records of some words: first: the seven words of this turn
+pub next_record : (r : Record) (w first rest : List ℤ) → r ≡ record_from first 0 → w ≡ first ++ rest → length first ≡ record_words → all_records w ≡ r ∷ all_records rest
+next_record r w first rest e parts seven =
+    ap all_records parts ∙ first_and_rest first rest seven ∙ ap (λ (a : Record). a ∷ all_records rest) (sym e)
+
+pub ranged_here : (r : Record) (rs later : List Record) → rs ≡ r ∷ later → all_ranged rs ≡ true → (is_ranged r ≡ true) × (all_ranged later ≡ true)
+unfolding every
+ranged_here r rs later turn e =
+    let both : is_ranged r && all_ranged later ≡ true = sym (ap all_ranged turn) ∙ e in
+    (and_left (is_ranged r) (all_ranged later) both, and_right (is_ranged r) (all_ranged later) both)
+
+-- a test of every record, in turn: rs: the records left
+module _ (one : Record → Bool) (all rs : List Record) (e : every one all ≡ every one rs) where
+  pub failed_here : (r : Record) (later : List Record) → rs ≡ r ∷ later → one r ≡ false → false ≡ every one all
+  unfolding every
+  failed_here r later turn t = sym (e ∙ ap (every one) turn ∙ simp t)
+
+  pub passed_here : (r : Record) (later : List Record) → rs ≡ r ∷ later → one r ≡ true → every one all ≡ every one later
+  unfolding every
+  passed_here r later turn t = e ∙ ap (every one) turn ∙ simp t
+
+  pub passed_all : rs ≡ [] → true ≡ every one all
+  unfolding every
+  passed_all none = sym (e ∙ ap (every one) none)
+
+-- ---- the order of records: the record at i and the one before it
 
 -- the records from the i-th on, of n
 abbrev pub left : ℕ → ℕ → List ℤ → List Record
@@ -45,7 +100,7 @@ left n i w = read_records (n - i) (drop (record_words * i) w)
 pub left-at_first : (n : ℕ) (w : List ℤ) → read_records n w ≡ left n 0 w
 left-at_first n w = let e : n - 0 ≡ n = omega arith in ap (λ (m : ℕ). read_records m w) (sym e)
 
-pub left_at : (n i : ℕ) (w : List ℤ) → i < n → left n i w ≡ record_from w (record_words * i) ∷ left n (i + 1) w
+left_at : (n i : ℕ) (w : List ℤ) → i < n → left n i w ≡ record_from w (record_words * i) ∷ left n (i + 1) w
 unfolding read_records
 left_at n i w h =
     let e : n - i ≡ suc (n - (i + 1)) = omega arith in
@@ -56,34 +111,9 @@ left_at n i w h =
     (record_at (record_words * i) w)
     (ap (read_records (n - (i + 1))) (drop-drop record_words (record_words * i) w ∙ ap (λ (m : ℕ). drop m w) f))
 
-pub none_left : (n i : ℕ) (w : List ℤ) → n ≤ i → left n i w ≡ []
+none_left : (n i : ℕ) (w : List ℤ) → n ≤ i → left n i w ≡ []
 unfolding read_records
 none_left n i w h = let e : n - i ≡ 0 = omega arith in ap (λ (m : ℕ). read_records m (drop (record_words * i) w)) e
-
-pub ranged_here : (n i : ℕ) (w : List ℤ) → i < n → all_ranged (left n i w) ≡ true → (is_ranged (record_from w (record_words * i)) ≡ true) × (all_ranged (left n (i + 1) w) ≡ true)
-unfolding every
-ranged_here n i w h e =
-    let r = record_from w (record_words * i) in
-    let both : is_ranged r && all_ranged (left n (i + 1) w) ≡ true = sym (ap all_ranged (left_at n i w h)) ∙ e in
-    (and_left (is_ranged r) (all_ranged (left n (i + 1) w)) both, and_right (is_ranged r) (all_ranged (left n (i + 1) w)) both)
-
--- a test of every record, in turn
-module _ (one : Record → Bool) (n i : ℕ) (w : List ℤ) (e : every one (read_records n w) ≡ every one (left n i w)) where
-  at_record : i < n → every one (read_records n w) ≡ one (record_from w (record_words * i)) && every one (left n (i + 1) w)
-  unfolding every
-  at_record h = e ∙ ap (every one) (left_at n i w h)
-
-  pub failed_here : i < n → one (record_from w (record_words * i)) ≡ false → false ≡ every one (read_records n w)
-  failed_here h t = sym (at_record h ∙ simp t)
-
-  pub passed_here : i < n → one (record_from w (record_words * i)) ≡ true → every one (read_records n w) ≡ every one (left n (i + 1) w)
-  passed_here h t = at_record h ∙ simp t
-
-  pub passed_all : n ≤ i → true ≡ every one (read_records n w)
-  unfolding every
-  passed_all h = sym (e ∙ ap (every one) (none_left n i w h))
-
--- ---- the order of records: the record at i and the one before it
 
 sorted_two : (a b : Record) (rs : List Record) → is_sorted (a ∷ b ∷ rs) ≡ precedes a b && is_sorted (b ∷ rs)
 unfolding is_sorted

@@ -5,24 +5,25 @@ use mathlib.Core.Path.{◌≡◌, refl, sym, ap, ◌∙◌}
 use mathlib.Core.Bool.{Bool, true, false, ◌&&◌, not, and_assoc, and-false}
 use mathlib.Core.List.{List, [], ◌∷◌}
 use mathlib.Core.Logic.{dite}
-use Prim.Native.Nat.{ℕ, ◌+◌, ◌*◌, ◌/◌, ◌≤◌, ◌<◌}
+use Prim.Native.Nat.{ℕ, ◌/◌, ◌<◌}
 use native.Mathlib.Decide.{ℕ_discrete}
 use native.Mathlib.Omega.{arith}
-use lib.IntN.{ℤ}
+use lib.IntN.{ℤ, nat_abs}
+use mir.Syntax.{w32}
+use mir.Val.{SFits, of_z, to_z}
+use Rattle.std.proofs.lemmas.Int.{to_z-of_z}
 use lib.ListN.{length, replicate}
 use Rattle.ints.specs.Lists.{some, every}
 use Rattle.ints.specs.Whole.{up, down, eq_z}
-use Rattle.ints.proofs.Parts.{equal_parts}
+use Rattle.ints.proofs.Parts.{abs, equal_parts}
 use Rattle.ints.proofs.Truth.{and_left, and_right}
 use Rattle.ints.proofs.Same.{is_same, not_same}
-use Rattle.records.specs.Records.{record_words, record_from, read_records}
 use Rattle.records.specs.Order.{has_id}
 use Rattle.records.specs.Soundness.{ids_distinct, is_ranged, all_ranged}
 use Rattle.records.specs.Needs.{mark_bytes, is_marked, with_mark}
 use Rattle.records.proofs.SoundnessMarksLaws.{none_marked_lem, mark_set, mark_kept}
 use Rattle.records.specs.declared.Record.{Record}
 use Rattle.records.proofs.SoundnessRangeLaws.{id_from}
-use Rattle.records.proofs.RecordsTurnLaws.{left, left-at_first, left_at, none_left, ranged_here}
 
 unfoldable pub none_marked : List ℕ → List Record → Bool
 none_marked marks [] = true
@@ -66,42 +67,35 @@ module _ (marks : List ℕ) (id : ℤ) (whole : down id ≡ 0) (fits : up id / 8
 
 -- ---- a turn
 
+-- an id as the index of its mark
+pub id_index : (r : Record) → is_ranged r ≡ true → SFits w32 r.report.id → nat_abs (to_z w32 (of_z w32 r.report.id)) ≡ up r.report.id
+id_index r ranged f = let i = id_from r ranged in ap nat_abs (to_z-of_z w32 r.report.id f) ∙ omega (arith, abs r.report.id)
+
 distinct_cons :
     (marks : List ℕ) (r : Record) (rs : List Record)
     → still_distinct marks (r ∷ rs) ≡ (not (is_marked marks (up r.report.id)) && none_marked marks rs) && (not (has_id r.report.id rs) && ids_distinct rs)
 unfolding none_marked ids_distinct
 distinct_cons marks r rs = refl
 
-pub distinct-at_first : (m n : ℕ) (w : List ℤ) → ids_distinct (read_records n w) ≡ still_distinct (replicate m 0) (left n 0 w)
-distinct-at_first m n w =
-    ap ids_distinct (left-at_first n w) ∙ sym (ap (λ (b : Bool). b && ids_distinct (left n 0 w)) (none_yet m (left n 0 w)))
+pub distinct-at_first : (m : ℕ) (rs : List Record) → ids_distinct rs ≡ still_distinct (replicate m 0) rs
+distinct-at_first m rs = sym (ap (λ (b : Bool). b && ids_distinct rs) (none_yet m rs))
 
-module _ (n i : ℕ) (w : List ℤ) (marks : List ℕ) (e : ids_distinct (read_records n w) ≡ still_distinct marks (left n i w)) where
-  at_id :
-      i < n
-      → ids_distinct (read_records n w)
-      ≡ (not (is_marked marks (up (record_from w (record_words * i)).report.id)) && none_marked marks (left n (i + 1) w))
-      && (not (has_id (record_from w (record_words * i)).report.id (left n (i + 1) w)) && ids_distinct (left n (i + 1) w))
-  at_id h = e ∙ ap (still_distinct marks) (left_at n i w h) ∙ distinct_cons marks (record_from w (record_words * i)) (left n (i + 1) w)
+pub seen_twice : (marks : List ℕ) (r : Record) (rs : List Record) → is_marked marks (up r.report.id) ≡ true → still_distinct marks (r ∷ rs) ≡ false
+seen_twice marks r rs t = distinct_cons marks r rs ∙ simp t
 
-  pub seen_twice : i < n → is_marked marks (up (record_from w (record_words * i)).report.id) ≡ true → false ≡ ids_distinct (read_records n w)
-  seen_twice h t = sym (at_id h ∙ simp t)
+pub seen_once :
+    (marks : List ℕ) (r : Record) (rs : List Record)
+    → is_marked marks (up r.report.id) ≡ false
+    → length marks ≡ mark_bytes
+    → is_ranged r ≡ true
+    → all_ranged rs ≡ true
+    → still_distinct marks (r ∷ rs) ≡ still_distinct (with_mark marks (up r.report.id)) rs
+seen_once marks r rs t long ranged later =
+    let f = id_from r ranged in
+    let below : up r.report.id / 8 < length marks = omega arith in
+    let new = one_more marks r.report.id f.whole below rs later in
+    distinct_cons marks r rs ∙ simp (t, new, and_assoc)
 
-  pub seen_once :
-      i < n
-      → is_marked marks (up (record_from w (record_words * i)).report.id) ≡ false
-      → length marks ≡ mark_bytes
-      → all_ranged (left n i w) ≡ true
-      → ids_distinct (read_records n w) ≡ still_distinct (with_mark marks (up (record_from w (record_words * i)).report.id)) (left n (i + 1) w)
-  seen_once h t long ranged =
-      let r = record_from w (record_words * i) in
-      let rest = left n (i + 1) w in
-      let both = ranged_here n i w h ranged in
-      let f = id_from r both.0 in
-      let below : up r.report.id / 8 < length marks = omega arith in
-      let new = one_more marks r.report.id f.whole below rest both.1 in
-      at_id h ∙ simp (t, new, and_assoc)
-
-  pub all_seen : n ≤ i → true ≡ ids_distinct (read_records n w)
-  unfolding none_marked ids_distinct
-  all_seen h = sym (e ∙ ap (still_distinct marks) (none_left n i w h))
+pub all_seen : (marks : List ℕ) → still_distinct marks [] ≡ true
+unfolding none_marked ids_distinct
+all_seen marks = refl

@@ -149,6 +149,12 @@ sound_store s h =
       ranged = all_sound-ranged (now_of s) (records_of s) head.time sound;
     }
 
+pub header_of : (s : List ℤ) → is_sound_store s ≡ true → is_sound_header s ≡ true
+unfolding is_sound_store
+header_of s h =
+    let long = eqb (length s) store_words in
+    and_right long (is_sound_header s) (and_left (long && is_sound_header s) (is_sound_body s) h)
+
 -- ---- its words are those of its records
 
 counted : (s : List ℤ) → SoundHeader s → get_or s 1 (pos 0) ≡ pos (held_of s)

@@ -1,7 +1,7 @@
 -- What the functions that judge a store ask: the curve's table, times and reports in their ranges, words enough for some records; and the marks by which ids
 -- are told apart.
 -- Assumes nothing.
-use Rattle.std.specs.Prelude.{◌≡◌, Bool, true, not, List, ℕ, ◌*◌, ◌/◌, ◌%◌, ◌^◌, ◌≤◌, ◌<◌, eqb, ℤ, length, get_or, set}
+use Rattle.std.specs.Prelude.{◌≡◌, Bool, true, not, List, ℕ, ◌/◌, ◌%◌, ◌^◌, ◌≤◌, ◌<◌, eqb, ℤ, length, get_or, set}
 use Rattle.std.specs.Int.Bits.{bit_and, bit_or}
 use Rattle.grid.specs.Units.{cells, id_marks}
 use Rattle.grid.specs.Curve.{IsCurve}
@@ -9,7 +9,7 @@ use Rattle.grid.specs.Reports.{is_time, in_range}
 use Rattle.grid.specs.declared.Report.{Report}
 use Rattle.rows.specs.Phases.{slots, last_phase}
 use Rattle.rows.specs.Table.{table_words}
-use Rattle.records.specs.Records.{record_words, store_words, read_records}
+use Rattle.records.specs.Records.{store_words}
 use Rattle.records.specs.Soundness.{is_sound_header, is_ranged, all_ranged}
 use Rattle.records.specs.declared.Record.{Record}
 
@@ -36,10 +36,6 @@ pub record CanJudge (numbers : List ℕ) (time : ℤ) : Type 0 where
   pub curve : IsCurve numbers
   pub is_time_lem : is_time time ≡ true
 
-pub record CanJudgeAll (words : List ℤ) (n : ℕ) (time : ℤ) : Type 0 where
-  pub enough : record_words * n ≤ length words
-  pub is_time_lem : is_time time ≡ true
-
 -- the marks of ids, eight to a byte: the bytes, the bit of an id in its byte, whether it is set, and the marks with it set
 abbrev pub mark_bytes : ℕ
 mark_bytes = id_marks / 8
@@ -53,19 +49,13 @@ is_marked marks id = not (eqb (bit_and (get_or marks (id / 8) 0) (mark_bit id)) 
 abbrev pub with_mark : List ℕ → ℕ → List ℕ
 with_mark marks id = set marks (id / 8) (bit_or (get_or marks (id / 8) 0) (mark_bit id))
 
--- n records in their ranges
-pub record RangedRecords (words : List ℤ) (n : ℕ) : Type 0 where
-  pub enough : record_words * n ≤ length words
-  pub ranged : all_ranged (read_records n words) ≡ true
-
 pub record CanFindRow (table : List ℤ) (r : Record) : Type 0 where
   pub whole_table : length table ≡ table_words
   pub ranged : is_ranged r ≡ true
 
-pub record CanFindRows (table words : List ℤ) (n : ℕ) : Type 0 where
+pub record CanFindRows (table : List ℤ) (rs : List Record) : Type 0 where
   pub whole_table : length table ≡ table_words
-  pub enough : record_words * n ≤ length words
-  pub ranged : all_ranged (read_records n words) ≡ true
+  pub ranged : all_ranged rs ≡ true
 
 -- a store whose record 0 is sound
 pub record HasHeader (store : List ℤ) : Type 0 where

@@ -1,7 +1,7 @@
 -- The record store: signed 32-bit words in records of 7, and the view from words to the list of records and back. Document 01, "Store and
 -- table". Above this crate nobody speaks of word positions.
 -- Assumes nothing.
-use Rattle.std.specs.Prelude.{List, [], ◌∷◌, ◌++◌, ℕ, zero, suc, ◌+◌, ◌-◌, ◌*◌, ℤ, pos, length, get_or, drop, replicate}
+use Rattle.std.specs.Prelude.{List, [], ◌∷◌, ◌++◌, ℕ, zero, suc, ◌+◌, ◌-◌, ◌*◌, ◌/◌, ℤ, pos, length, get_or, drop, replicate}
 use Rattle.ints.specs.Whole.{up}
 use Rattle.grid.specs.Units.{capacity}
 use Rattle.records.specs.declared.Record.{Record}
@@ -42,6 +42,10 @@ held_of s = up (get_or s 1 (pos 0))
 unfoldable pub read_records : ℕ → List ℤ → List Record
 read_records zero w = []
 read_records (suc n) w = record_from w 0 ∷ read_records n (drop record_words w)
+
+-- all records of some words
+abbrev pub all_records : List ℤ → List Record
+all_records w = read_records (length w / record_words) w
 
 -- the records that a store holds, in order
 unfoldable pub records_of : List ℤ → List Record

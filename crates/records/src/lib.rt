@@ -43,7 +43,7 @@ impl Record {
         };
         Record {
             key: words[k],
-            report: report,
+            report,
         }
     }
 }
@@ -54,8 +54,7 @@ pub fn now_of(store: &[i32]) -> i64
     ensures value { result ≡ now_of store.now }
     ensures result_bound { nat_abs result ≤ 2 ^ 31 }
 {
-    let t = store[0];
-    t as i64
+    i64::from(store[0])
 }
 
 // The floats held.
@@ -63,9 +62,5 @@ pub fn held_of(store: &[i32]) -> usize
     requires { 1 < length store.now }
     ensures { result ≡ held_of store.now }
 {
-    let n = store[1];
-    if n < 0 {
-        return 0;
-    }
-    n as usize
+    store[1].max(0) as usize
 }

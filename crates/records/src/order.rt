@@ -2,7 +2,7 @@
 ghost use Rattle.std.specs.Prelude.{◌≡◌, ◌&&◌, true, ◌≤◌, ◌+◌, ◌*◌, length};
 ghost use Rattle.ints.specs.Whole.{eq_z};
 ghost use Rattle.rows.specs.Phases.{phase_of, live_phases};
-ghost use Rattle.records.specs.Records.{record_words, read_records};
+ghost use Rattle.records.specs.Records.{all_records};
 ghost use Rattle.records.specs.Order.{key_at, key_in, slot_of_key, number_of_key, phase_with_slot, phase_of_key, precedes, is_sorted};
 ghost use Rattle.records.specs.Needs.{CellOfSlot, CanKey};
 
@@ -19,20 +19,14 @@ pub fn is_same(a: i32, b: i32) -> bool
 pub fn slot_of_key(key: i32) -> usize
     ensures { result ≡ slot_of_key key }
 {
-    if key < 0 {
-        return 0;
-    }
-    (key as usize) / grid::CELLS
+    key.max(0) as usize / grid::CELLS
 }
 
 // The curve number of a key.
 pub fn number_of_key(key: i32) -> usize
     ensures { result ≡ number_of_key key }
 {
-    if key < 0 {
-        return 0;
-    }
-    (key as usize) % grid::CELLS
+    key.max(0) as usize % grid::CELLS
 }
 
 // The live phase with a slot, the current phase being c; 0 where none has it.
@@ -43,10 +37,7 @@ fn phase_with_slot(c: usize, slot: usize) -> usize
         return 0;
     }
     let back = (c % rows::SLOTS + rows::SLOTS - slot) % rows::SLOTS;
-    if c < back {
-        return 0;
-    }
-    c - back
+    c.saturating_sub(back)
 }
 
 // The live phase of a key, the current phase being c.
@@ -60,21 +51,18 @@ pub fn phase_of_key(c: usize, key: i32) -> usize
 pub fn precedes(a: Record, b: Record) -> bool
     ensures { result ≡ precedes a b }
 {
-    (a.key < b.key) | (is_same(a.key, b.key) & (a.report.id < b.report.id))
+    (a.key < b.key) | ((a.key == b.key) & (a.report.id < b.report.id))
 }
 
-// Whether the first n records are in order, in one pass without a branch.
-pub fn is_sorted(words: &[i32], n: usize) -> bool
-    requires { record_words * n ≤ length words.now }
-    ensures { result ≡ is_sorted (read_records n words.now) }
+// Whether the records of some words are in order, in one pass without a branch.
+pub fn is_sorted(words: &[i32]) -> bool
+    ensures { result ≡ is_sorted (all_records words.now) }
 {
     let mut sorted = true;
-    let mut i = 1;
-    while i < n {
+    for i in 1..words.len() / RECORD_WORDS {
         let a = Record::read_from(words, RECORD_WORDS * (i - 1));
         let b = Record::read_from(words, RECORD_WORDS * i);
-        sorted = sorted & precedes(a, b);
-        i += 1;
+        sorted &= precedes(a, b);
     }
     sorted
 }
@@ -83,7 +71,7 @@ pub fn is_sorted(words: &[i32], n: usize) -> bool
 pub fn phase_at(t: i32) -> usize
     ensures { result ≡ phase_of t }
 {
-    rows::phase_of(t as i64)
+    rows::phase_of(i64::from(t))
 }
 
 // The key of a cell of a slot.
