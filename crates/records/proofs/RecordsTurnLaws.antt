@@ -9,8 +9,8 @@ use native.Mathlib.Decide.{dec_lt}
 use native.Mathlib.Numerals.{add-one}
 use native.Mathlib.Omega.{arith}
 use lib.IntN.{ℤ, pos}
-use lib.ListN.{length, get_or, drop, drop_of_length-le, length-append, get_or-append}
-use lib.Seq.{drop-cons, drop-drop, drop_at}
+use lib.ListN.{length, get_or, drop, drop_of_length-le, length-append}
+use lib.Seq.{drop-cons, drop-drop, drop_at, take_at}
 use Rattle.ints.specs.Lists.{every}
 use Rattle.ints.specs.Whole.{eq_z}
 use Rattle.ints.proofs.Truth.{and_left, and_right}
@@ -18,7 +18,7 @@ use Rattle.records.specs.Records.{record_words, record_from, read_records, all_r
 use Rattle.records.specs.Order.{precedes, is_sorted}
 use Rattle.records.specs.Soundness.{all_zero, is_ranged, all_ranged}
 use Rattle.records.specs.declared.Record.{Record}
-use Rattle.records.proofs.PlacesLaws.{record_at}
+use Rattle.records.proofs.PlacesLaws.{record_at, same_first}
 
 -- ---- words
 
@@ -38,29 +38,13 @@ module _ (w : List ℤ) (i : ℕ) (zero : Bool) (e : all_zero w ≡ zero && all_
 
 -- ---- the first record of some words, and those after it
 
--- first: its words; w: the words after it
-module _ (first w : List ℤ) (seven : length first ≡ record_words) where
-  words_of_first : (k : ℕ) → k < record_words → get_or (first ++ w) k (pos 0) ≡ get_or first k (pos 0)
-  words_of_first k h = get_or-append first w (pos 0) k (omega arith)
-
-  first_is : record_from (first ++ w) 0 ≡ record_from first 0
-  first_is = λ i. record {
-    key = words_of_first 0 (omega arith) i;
-    report = record {
-      id = words_of_first 1 (omega arith) i;
-      t = words_of_first 2 (omega arith) i;
-      x = words_of_first 3 (omega arith) i;
-      y = words_of_first 4 (omega arith) i;
-      vx = words_of_first 5 (omega arith) i;
-      vy = words_of_first 6 (omega arith) i;
-    };
-  }
-
-  pub first_and_rest : all_records (first ++ w) ≡ record_from first 0 ∷ all_records w
-  unfolding read_records
-  first_and_rest =
-      let e : length (first ++ w) / record_words ≡ suc (length w / record_words) = omega (arith, length-append first w) in
-      ap (λ (n : ℕ). read_records n (first ++ w)) e ∙ ap₂ ◌∷◌ first_is (ap (read_records (length w / record_words)) (drop_at first w record_words seven))
+first_and_rest : (first w : List ℤ) → length first ≡ record_words → all_records (first ++ w) ≡ record_from first 0 ∷ all_records w
+unfolding read_records
+first_and_rest first w seven =
+    let count : length (first ++ w) / record_words ≡ suc (length w / record_words) = omega (arith, length-append first w) in
+    let words : record_from (first ++ w) 0 ≡ record_from first 0 =
+    sym (same_first record_words (first ++ w) (omega arith)) ∙ ap (λ (l : List ℤ). record_from l 0) (take_at first w record_words seven) in
+    ap (λ (n : ℕ). read_records n (first ++ w)) count ∙ ap₂ ◌∷◌ words (ap (read_records (length w / record_words)) (drop_at first w record_words seven))
 
 pub no_record : (w : List ℤ) → length w < record_words → all_records w ≡ []
 unfolding read_records
@@ -96,9 +80,6 @@ module _ (one : Record → Bool) (all rs : List Record) (e : every one all ≡ e
 -- the records from the i-th on, of n
 abbrev pub left : ℕ → ℕ → List ℤ → List Record
 left n i w = read_records (n - i) (drop (record_words * i) w)
-
-pub left-at_first : (n : ℕ) (w : List ℤ) → read_records n w ≡ left n 0 w
-left-at_first n w = let e : n - 0 ≡ n = omega arith in ap (λ (m : ℕ). read_records m w) (sym e)
 
 left_at : (n i : ℕ) (w : List ℤ) → i < n → left n i w ≡ record_from w (record_words * i) ∷ left n (i + 1) w
 unfolding read_records
