@@ -25,16 +25,15 @@ pub record CanKey (numbers : List ℕ) (p : ℕ) (r : Report) : Type 0 where
   pub in_range_lem : in_range r ≡ true
   pub sent : is_time r.t ≡ true
 
--- a record whose key is judged at a time
-pub record CanJudgeKey (numbers : List ℕ) (time : ℤ) (r : Record) : Type 0 where
-  pub curve : IsCurve numbers
-  pub is_time_lem : is_time time ≡ true
-  pub in_range_lem : in_range r.report ≡ true
-  pub sent : is_time r.report.t ≡ true
-
+-- a time at which records are judged, and a record whose key is judged at it
 pub record CanJudge (numbers : List ℕ) (time : ℤ) : Type 0 where
   pub curve : IsCurve numbers
   pub is_time_lem : is_time time ≡ true
+
+pub record CanJudgeKey (numbers : List ℕ) (time : ℤ) (r : Record) : Type 0 where
+  pub judge : CanJudge numbers time
+  pub in_range_lem : in_range r.report ≡ true
+  pub sent : is_time r.report.t ≡ true
 
 -- the marks of ids, eight to a byte: the bytes, the bit of an id in its byte, whether it is set, and the marks with it set
 abbrev pub mark_bytes : ℕ

@@ -29,7 +29,7 @@ pub fn number_of_key(key: i32) -> usize
     key.max(0) as usize % grid::CELLS
 }
 
-// The live phase with a slot, the current phase being c; 0 where none has it.
+// The live phase with a slot, the current phase being c. Where none has it, phase 0, as the definition that says which keys are right.
 fn phase_with_slot(c: usize, slot: usize) -> usize
     ensures { result ≡ phase_with_slot (live_phases c) slot }
 {
@@ -54,7 +54,7 @@ pub fn precedes(a: Record, b: Record) -> bool
     (a.key < b.key) | ((a.key == b.key) & (a.report.id < b.report.id))
 }
 
-// Whether the records of some words are in order, in one pass without a branch.
+// Whether the records of some words are in order, in one pass without a branch. By index, since each is read with the one before it.
 pub fn is_sorted(words: &[i32]) -> bool
     ensures { result ≡ is_sorted (all_records words.now) }
 {

@@ -15,11 +15,6 @@ use crate::{CAPACITY, RECORD_WORDS, Record, STORE_WORDS, held_of};
 use grid::{LAST_ID, LAST_POSITION, LAST_TIME, Report};
 use rows::{Drift, Row};
 
-// The least and the greatest speed along an axis, in centimetres per second: a row's limit.
-const GREATEST_SPEED: i32 = Row::LIMIT as i32;
-
-const LEAST_SPEED: i32 = -GREATEST_SPEED;
-
 // The bytes of the marks of all ids, eight to a byte.
 const MARK_BYTES: usize = grid::ID_MARKS / 8;
 
@@ -29,13 +24,16 @@ const MOST_HELD: i32 = CAPACITY as i32;
 fn are_positions(x: i32, y: i32) -> bool
     ensures { result ≡ is_position x && is_position y }
 {
-    (0..=LAST_POSITION).contains(&x) && (0..=LAST_POSITION).contains(&y)
+    let positions = 0..=LAST_POSITION;
+    positions.contains(&x) && positions.contains(&y)
 }
 
 fn are_speeds(vx: i32, vy: i32) -> bool
     ensures { result ≡ is_speed vx && is_speed vy }
 {
-    (LEAST_SPEED..=GREATEST_SPEED).contains(&vx) && (LEAST_SPEED..=GREATEST_SPEED).contains(&vy)
+    let limit = i32::from(Row::LIMIT);
+    let speeds = -limit..=limit;
+    speeds.contains(&vx) && speeds.contains(&vy)
 }
 
 // Whether id, position and speed are in their ranges.

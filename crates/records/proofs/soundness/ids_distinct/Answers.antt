@@ -25,7 +25,7 @@ pub overflow_cast-id : goal.overflow_cast-id
 overflow_cast-id c =
     let s = c.in-Some.ensures.steps in
     let r = c.read_from-id.result in
-    let turn = next_record r (chunks_exact_rest c.loop-w.w-iterator) c.in-Some.w.now (chunks_exact_rest c.next.new.self) c.read_from-id.ensures s.1.0 (s.1.1 ∙ c.loop-w.invariant.sevens) in
+    let turn = next_record r _ _ _ c.read_from-id.ensures s.1.0 (s.1.1 ∙ c.loop-w.invariant.sevens) in
     let ranged = ranged_here r _ _ turn c.loop-w.invariant.ranged in
     let id : is_id r.report.id ≡ true = from_between 1 last_id r.report.id (id_from r ranged.0) in
     search rules
@@ -34,7 +34,7 @@ pub is_marked-requires : goal.is_marked-requires
 is_marked-requires c =
     let s = c.in-Some.ensures.steps in
     let r = c.read_from-id.result in
-    let turn = next_record r (chunks_exact_rest c.loop-w.w-iterator) c.in-Some.w.now (chunks_exact_rest c.next.new.self) c.read_from-id.ensures s.1.0 (s.1.1 ∙ c.loop-w.invariant.sevens) in
+    let turn = next_record r _ _ _ c.read_from-id.ensures s.1.0 (s.1.1 ∙ c.loop-w.invariant.sevens) in
     let ranged = ranged_here r _ _ turn c.loop-w.invariant.ranged in
     let f = id_from r ranged.0 in
     omega (arith, id_index r ranged.0 (search rules))
@@ -43,7 +43,7 @@ pub returns-then-is_marked : goal.returns-then-is_marked
 returns-then-is_marked c =
     let s = c.in-Some.ensures.steps in
     let r = c.read_from-id.result in
-    let turn = next_record r (chunks_exact_rest c.loop-w.w-iterator) c.in-Some.w.now (chunks_exact_rest c.next.new.self) c.read_from-id.ensures s.1.0 (s.1.1 ∙ c.loop-w.invariant.sevens) in
+    let turn = next_record r _ _ _ c.read_from-id.ensures s.1.0 (s.1.1 ∙ c.loop-w.invariant.sevens) in
     let ranged = ranged_here r _ _ turn c.loop-w.invariant.ranged in
     let marked : is_marked c.loop-w.marks (up r.report.id) ≡ true = sym (c.is_marked.ensures ∙ ap (is_marked c.loop-w.marks) (id_index r ranged.0 (search rules))) ∙ c.if-is_marked.true in
     sym (c.loop-w.invariant.left ∙ ap (still_distinct c.loop-w.marks) turn ∙ seen_twice c.loop-w.marks r _ marked)
@@ -52,7 +52,7 @@ pub mark-requires : goal.mark-requires
 mark-requires c =
     let s = c.in-Some.ensures.steps in
     let r = c.read_from-id.result in
-    let turn = next_record r (chunks_exact_rest c.loop-w.w-iterator) c.in-Some.w.now (chunks_exact_rest c.next.new.self) c.read_from-id.ensures s.1.0 (s.1.1 ∙ c.loop-w.invariant.sevens) in
+    let turn = next_record r _ _ _ c.read_from-id.ensures s.1.0 (s.1.1 ∙ c.loop-w.invariant.sevens) in
     let ranged = ranged_here r _ _ turn c.loop-w.invariant.ranged in
     let f = id_from r ranged.0 in
     omega (arith, id_index r ranged.0 (search rules))
@@ -61,7 +61,7 @@ pub loop-w-preserved : goal.loop-w-preserved
 loop-w-preserved c =
     let s = c.in-Some.ensures.steps in
     let r = c.read_from-id.result in
-    let turn = next_record r (chunks_exact_rest c.loop-w.w-iterator) c.in-Some.w.now (chunks_exact_rest c.next.new.self) c.read_from-id.ensures s.1.0 (s.1.1 ∙ c.loop-w.invariant.sevens) in
+    let turn = next_record r _ _ _ c.read_from-id.ensures s.1.0 (s.1.1 ∙ c.loop-w.invariant.sevens) in
     let ranged = ranged_here r _ _ turn c.loop-w.invariant.ranged in
     let index = id_index r ranged.0 (search rules) in
     let unmarked = sym (c.is_marked.ensures ∙ ap (is_marked c.loop-w.marks) index) ∙ c.if-is_marked.false in
@@ -77,5 +77,5 @@ loop-w-preserved c =
 
 pub returns : goal.returns
 returns c =
-    let few = no_record (chunks_exact_rest c.loop-w.w-iterator) (omega (arith, c.in-None.ensures.steps.1.0, c.loop-w.invariant.sevens)) in
+    let few = no_record _ (omega (arith, c.in-None.ensures.steps.1.0, c.loop-w.invariant.sevens)) in
     sym (c.loop-w.invariant.left ∙ ap (still_distinct c.loop-w.marks) few ∙ all_seen c.loop-w.marks)
