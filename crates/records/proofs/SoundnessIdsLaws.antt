@@ -3,7 +3,7 @@
 -- Assumes nothing.
 use mathlib.Core.Path.{◌≡◌, refl, sym, ap, ◌∙◌}
 use mathlib.Core.Bool.{Bool, true, false, ◌&&◌, not, and_assoc, and-false}
-use mathlib.Core.List.{List, [], ◌∷◌}
+use mathlib.Core.List.{List, [], ◌∷◌, ◌++◌}
 use mathlib.Core.Logic.{dite}
 use Prim.Native.Nat.{ℕ, ◌/◌, ◌<◌}
 use native.Mathlib.Decide.{ℕ_discrete}
@@ -23,7 +23,11 @@ use Rattle.records.specs.Soundness.{ids_distinct, is_ranged, all_ranged}
 use Rattle.records.specs.Needs.{mark_bytes, is_marked, with_mark}
 use Rattle.records.proofs.SoundnessMarksLaws.{none_marked_lem, mark_set, mark_kept}
 use Rattle.records.specs.declared.Record.{Record}
-use Rattle.records.proofs.SoundnessRangeLaws.{id_from}
+use Rattle.records.proofs.SoundnessRangeLaws.{From, from_between, id_from}
+use Rattle.records.proofs.RecordsTurnLaws.{next_record, ranged_here}
+use Rattle.records.specs.Records.{record_words, record_from, all_records}
+use Rattle.grid.specs.Units.{last_id}
+use Rattle.grid.specs.Reports.{is_id}
 
 unfoldable pub none_marked : List ℕ → List Record → Bool
 none_marked marks [] = true
@@ -67,9 +71,35 @@ module _ (marks : List ℕ) (id : ℤ) (whole : down id ≡ 0) (fits : up id / 8
 
 -- ---- a turn
 
--- an id as the index of its mark
-pub id_index : (r : Record) → is_ranged r ≡ true → SFits w32 r.report.id → nat_abs (to_z w32 (of_z w32 r.report.id)) ≡ up r.report.id
-id_index r ranged f = let i = id_from r ranged in ap nat_abs (to_z-of_z w32 r.report.id f) ∙ omega (arith, abs r.report.id)
+-- a turn of the loop over the records of some words: r: the record of this turn; later: those after it
+pub record IdTurn (r : Record) (rs later : List Record) : Type 0 where
+  pub next : rs ≡ r ∷ later
+  pub ranged : is_ranged r ≡ true
+  pub rest : all_ranged later ≡ true
+  pub id : From 1 last_id r.report.id
+  pub id_is : is_id r.report.id ≡ true
+  pub index : nat_abs (to_z w32 (of_z w32 r.report.id)) ≡ up r.report.id
+
+pub id_turn :
+    (r : Record) (w first rest : List ℤ)
+    → r ≡ record_from first 0
+    → w ≡ first ++ rest
+    → length first ≡ record_words
+    → all_ranged (all_records w) ≡ true
+    → SFits w32 r.report.id
+    → IdTurn r (all_records w) (all_records rest)
+id_turn r w first rest e parts seven ranged fits =
+    let turn = next_record r w first rest e parts seven in
+    let both = ranged_here r (all_records w) (all_records rest) turn ranged in
+    let f = id_from r both.0 in
+    record {
+      next = turn;
+      ranged = both.0;
+      rest = both.1;
+      id = f;
+      id_is = from_between 1 last_id r.report.id f;
+      index = ap nat_abs (to_z-of_z w32 r.report.id fits) ∙ omega (arith, abs r.report.id, f.whole);
+    }
 
 distinct_cons :
     (marks : List ℕ) (r : Record) (rs : List Record)

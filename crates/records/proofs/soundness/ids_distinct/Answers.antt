@@ -1,14 +1,11 @@
-use Rattle.std.proofs.Common.{rules, arith, ◌≡◌, ◌∙◌, sym, ap, true, ℕ, List, length}
+use Rattle.std.proofs.Common.{rules, arith, ◌≡◌, ◌∙◌, sym, ap, ℕ, List, length}
 use Rattle.std.specs.Slice.Iter.{chunks_exact_rest}
 use Rattle.std.proofs.lemmas.List.{length-set}
-use Rattle.grid.specs.Units.{last_id}
-use Rattle.grid.specs.Reports.{is_id}
 use Rattle.ints.specs.Whole.{up}
 use Rattle.records.specs.Records.{all_records}
 use Rattle.records.specs.Needs.{mark_bytes, is_marked, with_mark}
-use Rattle.records.proofs.SoundnessRangeLaws.{id_from, from_between}
-use Rattle.records.proofs.RecordsTurnLaws.{next_record, no_record, ranged_here}
-use Rattle.records.proofs.SoundnessIdsLaws.{still_distinct, id_index, distinct-at_first, seen_twice, seen_once, all_seen}
+use Rattle.records.proofs.RecordsTurnLaws.{no_record}
+use Rattle.records.proofs.SoundnessIdsLaws.{still_distinct, id_turn, distinct-at_first, seen_twice, seen_once, all_seen}
 use Rattle.records.proofs.soundness.ids_distinct.Goals as goal
 
 pub loop-w-init : goal.loop-w-init
@@ -25,53 +22,44 @@ pub overflow_cast-id : goal.overflow_cast-id
 overflow_cast-id c =
     let s = c.in-Some.ensures.steps in
     let r = c.read_from-id.result in
-    let turn = next_record r _ _ _ c.read_from-id.ensures s.1.0 (s.1.1 ∙ c.loop-w.invariant.sevens) in
-    let ranged = ranged_here r _ _ turn c.loop-w.invariant.ranged in
-    let id : is_id r.report.id ≡ true = from_between 1 last_id r.report.id (id_from r ranged.0) in
+    let t = id_turn r _ _ _ c.read_from-id.ensures s.1.0 (s.1.1 ∙ c.loop-w.invariant.sevens) c.loop-w.invariant.ranged (search rules) in
     search rules
 
 pub is_marked-requires : goal.is_marked-requires
 is_marked-requires c =
     let s = c.in-Some.ensures.steps in
     let r = c.read_from-id.result in
-    let turn = next_record r _ _ _ c.read_from-id.ensures s.1.0 (s.1.1 ∙ c.loop-w.invariant.sevens) in
-    let ranged = ranged_here r _ _ turn c.loop-w.invariant.ranged in
-    let f = id_from r ranged.0 in
-    omega (arith, id_index r ranged.0 (search rules))
+    let t = id_turn r _ _ _ c.read_from-id.ensures s.1.0 (s.1.1 ∙ c.loop-w.invariant.sevens) c.loop-w.invariant.ranged (search rules) in
+    omega arith
 
 pub returns-then-is_marked : goal.returns-then-is_marked
 returns-then-is_marked c =
     let s = c.in-Some.ensures.steps in
     let r = c.read_from-id.result in
-    let turn = next_record r _ _ _ c.read_from-id.ensures s.1.0 (s.1.1 ∙ c.loop-w.invariant.sevens) in
-    let ranged = ranged_here r _ _ turn c.loop-w.invariant.ranged in
-    let marked : is_marked c.loop-w.marks (up r.report.id) ≡ true = sym (c.is_marked.ensures ∙ ap (is_marked c.loop-w.marks) (id_index r ranged.0 (search rules))) ∙ c.if-is_marked.true in
-    sym (c.loop-w.invariant.left ∙ ap (still_distinct c.loop-w.marks) turn ∙ seen_twice c.loop-w.marks r _ marked)
+    let t = id_turn r _ _ _ c.read_from-id.ensures s.1.0 (s.1.1 ∙ c.loop-w.invariant.sevens) c.loop-w.invariant.ranged (search rules) in
+    let marked = sym (c.is_marked.ensures ∙ ap (is_marked c.loop-w.marks) t.index) ∙ c.if-is_marked.true in
+    sym (c.loop-w.invariant.left ∙ ap (still_distinct c.loop-w.marks) t.next ∙ seen_twice c.loop-w.marks r _ marked)
 
 pub mark-requires : goal.mark-requires
 mark-requires c =
     let s = c.in-Some.ensures.steps in
     let r = c.read_from-id.result in
-    let turn = next_record r _ _ _ c.read_from-id.ensures s.1.0 (s.1.1 ∙ c.loop-w.invariant.sevens) in
-    let ranged = ranged_here r _ _ turn c.loop-w.invariant.ranged in
-    let f = id_from r ranged.0 in
-    omega (arith, id_index r ranged.0 (search rules))
+    let t = id_turn r _ _ _ c.read_from-id.ensures s.1.0 (s.1.1 ∙ c.loop-w.invariant.sevens) c.loop-w.invariant.ranged (search rules) in
+    omega arith
 
 pub loop-w-preserved : goal.loop-w-preserved
 loop-w-preserved c =
     let s = c.in-Some.ensures.steps in
     let r = c.read_from-id.result in
-    let turn = next_record r _ _ _ c.read_from-id.ensures s.1.0 (s.1.1 ∙ c.loop-w.invariant.sevens) in
-    let ranged = ranged_here r _ _ turn c.loop-w.invariant.ranged in
-    let index = id_index r ranged.0 (search rules) in
-    let unmarked = sym (c.is_marked.ensures ∙ ap (is_marked c.loop-w.marks) index) ∙ c.if-is_marked.false in
-    let set_there : c.mark.new.marks ≡ with_mark c.loop-w.marks (up r.report.id) = c.mark.ensures ∙ ap (with_mark c.loop-w.marks) index in
+    let t = id_turn r _ _ _ c.read_from-id.ensures s.1.0 (s.1.1 ∙ c.loop-w.invariant.sevens) c.loop-w.invariant.ranged (search rules) in
+    let unmarked = sym (c.is_marked.ensures ∙ ap (is_marked c.loop-w.marks) t.index) ∙ c.if-is_marked.false in
+    let set_there : c.mark.new.marks ≡ with_mark c.loop-w.marks (up r.report.id) = c.mark.ensures ∙ ap (with_mark c.loop-w.marks) t.index in
     record {
       sevens = s.0 ∙ c.loop-w.invariant.sevens;
       long = ap length set_there ∙ simp length-set c.loop-w.invariant.long;
-      ranged = ranged.1;
-      left = c.loop-w.invariant.left ∙ ap (still_distinct c.loop-w.marks) turn
-          ∙ seen_once c.loop-w.marks r _ unmarked c.loop-w.invariant.long ranged.0 ranged.1
+      ranged = t.rest;
+      left = c.loop-w.invariant.left ∙ ap (still_distinct c.loop-w.marks) t.next
+          ∙ seen_once c.loop-w.marks r _ unmarked c.loop-w.invariant.long t.ranged t.rest
           ∙ ap (λ (marks : List ℕ). still_distinct marks (all_records (chunks_exact_rest c.next.new.self))) (sym set_there);
     }
 
