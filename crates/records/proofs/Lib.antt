@@ -8,3 +8,4 @@ pub mod SoundnessMarksLaws
 pub mod SoundnessIdsLaws
 pub mod SoundnessLaws
 pub mod OrderLaws
+pub mod RecordsRunLaws

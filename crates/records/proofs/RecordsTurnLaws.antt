@@ -1,7 +1,7 @@
 -- One turn of each loop over the records of a store: what is left at record i is that record and what is left at record i + 1.
 -- Assumes nothing.
 use mathlib.Core.Path.{◌≡◌, refl, sym, ap, ap₂, ◌∙◌}
-use mathlib.Core.Bool.{Bool, true, false, ◌&&◌, and_assoc, and-true}
+use mathlib.Core.Bool.{Bool, true, ◌&&◌, and_assoc, and-true}
 use mathlib.Core.List.{List, [], ◌∷◌, ◌++◌}
 use mathlib.Core.Logic.{dite}
 use Prim.Native.Nat.{ℕ, suc, ◌+◌, ◌-◌, ◌*◌, ◌/◌, ◌≤◌, ◌<◌}
@@ -60,20 +60,6 @@ unfolding every
 ranged_here r rs later turn e =
     let both : is_ranged r && all_ranged later ≡ true = sym (ap all_ranged turn) ∙ e in
     (and_left (is_ranged r) (all_ranged later) both, and_right (is_ranged r) (all_ranged later) both)
-
--- a test of every record, in turn: rs: the records left
-module _ (one : Record → Bool) (all rs : List Record) (e : every one all ≡ every one rs) where
-  pub failed_here : (r : Record) (later : List Record) → rs ≡ r ∷ later → one r ≡ false → false ≡ every one all
-  unfolding every
-  failed_here r later turn t = sym (e ∙ ap (every one) turn ∙ simp t)
-
-  pub passed_here : (r : Record) (later : List Record) → rs ≡ r ∷ later → one r ≡ true → every one all ≡ every one later
-  unfolding every
-  passed_here r later turn t = e ∙ ap (every one) turn ∙ simp t
-
-  pub passed_all : rs ≡ [] → true ≡ every one all
-  unfolding every
-  passed_all none = sym (e ∙ ap (every one) none)
 
 -- ---- the order of records: the record at i and the one before it
 

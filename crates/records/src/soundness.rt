@@ -77,12 +77,11 @@ fn all_sound(words: &[i32], time: i32) -> bool
     ensures { result ≡ all_sound time (all_records words.now) }
 {
     let numbers = grid::curve_numbers();
-    for w in words.chunks_exact(RECORD_WORDS) {
-        if !is_sound_record(&numbers, time, Record::read_from(w, 0)) {
-            return false;
-        }
-    }
-    true
+    words.chunks_exact(RECORD_WORDS).all(|w| is_sound_record(
+        &numbers,
+        time,
+        Record::read_from(w, 0),
+    ))
 }
 
 // The bit of an id in its byte of marks.
@@ -147,12 +146,9 @@ fn speeds_in_rows(table: &[i16], words: &[i32]) -> bool
     requires { CanFindRows table.now (all_records words.now) }
     ensures { result ≡ speeds_in_rows table.now (all_records words.now) }
 {
-    for w in words.chunks_exact(RECORD_WORDS) {
-        if !is_in_row(table, Record::read_from(w, 0)) {
-            return false;
-        }
-    }
-    true
+    words
+        .chunks_exact(RECORD_WORDS)
+        .all(|w| is_in_row(table, Record::read_from(w, 0)))
 }
 
 // Record 0: now, floats held, five zeros.
