@@ -1,5 +1,5 @@
 // Keys, the live phase of a key, and the order of records: document 01, "Store and table".
-ghost use Rattle.std.specs.Prelude.{◌≡◌, ◌&&◌, true, ◌≤◌, ◌+◌, ◌*◌, length};
+ghost use Rattle.std.specs.Prelude.{◌≡◌};
 ghost use Rattle.ints.specs.Whole.{eq_z};
 ghost use Rattle.rows.specs.Phases.{phase_of, live_phases};
 ghost use Rattle.records.specs.Records.{all_records};

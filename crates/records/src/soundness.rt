@@ -1,7 +1,6 @@
 // Whether a store and a table are sound: document 01, "Store and table", the sentence "Sound means". Every function here reads only, and
 // is_sound takes slices of every length. Positions are centimetres, speeds centimetres per second, times seconds.
 ghost use Rattle.std.specs.Prelude.{◌≡◌, ◌&&◌, true, ◌<◌, ◌+◌, ◌*◌, length, drop};
-ghost use Rattle.ints.specs.Whole.{up, between};
 ghost use Rattle.grid.specs.Units.{id_marks};
 ghost use Rattle.grid.specs.Reports.{is_time, is_position, is_speed, in_range};
 ghost use Rattle.rows.specs.Row.{drift_of};
