@@ -1,5 +1,5 @@
 // Keys, the live phase of a key, and the order of records: document 01, "Store and table".
-ghost use Rattle.std.specs.Prelude.{◌≡◌};
+ghost use Rattle.std.specs.Prelude.{◌≡◌, unwrap_or};
 ghost use Rattle.ints.specs.Whole.{eq_z};
 ghost use Rattle.rows.specs.Phases.{phase_of, live_phases};
 ghost use Rattle.records.specs.Records.{all_records};
@@ -29,22 +29,22 @@ pub fn number_of_key(key: i32) -> usize
     key.max(0) as usize % grid::CELLS
 }
 
-// The live phase with a slot, the current phase being c. Where none has it, phase 0, as the definition that says which keys are right.
-fn phase_with_slot(c: usize, slot: usize) -> usize
-    ensures { result ≡ phase_with_slot (live_phases c) slot }
+// The live phase with a slot, the current phase being c: as far back as the slots differ.
+fn phase_with_slot(c: usize, slot: usize) -> Option<usize>
+    ensures { unwrap_or result 0 ≡ phase_with_slot (live_phases c) slot }
 {
     if rows::SLOTS <= slot {
-        return 0;
+        return None;
     }
     let back = (c % rows::SLOTS + rows::SLOTS - slot) % rows::SLOTS;
-    c.saturating_sub(back)
+    c.checked_sub(back)
 }
 
-// The live phase of a key, the current phase being c.
+// The live phase of a key, the current phase being c. Where no live phase has its slot, phase 0, as its clause says of every key.
 pub fn phase_of_key(c: usize, key: i32) -> usize
     ensures { result ≡ phase_of_key c key }
 {
-    phase_with_slot(c, slot_of_key(key))
+    phase_with_slot(c, slot_of_key(key)).unwrap_or(0)
 }
 
 // Whether a comes before b: by key, then id. No test waits for another: which records share a cell has no pattern.
