@@ -1,3 +1,4 @@
+-- One more record: it is compared with the one before it.
 use Rattle.std.proofs.Common.{arith, ◌/◌, ◌∙◌, ap₂, length}
 use Rattle.records.specs.Records.{record_words}
 use Rattle.records.specs.Order.{precedes}

@@ -1,3 +1,4 @@
+-- The test may be asked of every record, and `all` of them answers as the definition.
 use Rattle.std.proofs.Common.{rules}
 use Rattle.records.specs.Soundness.{is_sound_record}
 use Rattle.records.proofs.RecordsRunLaws.{serves_records, every_of_all}

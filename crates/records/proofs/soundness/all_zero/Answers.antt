@@ -1,3 +1,4 @@
+-- One more word: it is zero where its bits are.
 use Rattle.std.proofs.Common.{rules, arith, pos}
 use lib.ListN.{get_or}
 use Rattle.records.proofs.BitsLaws.{same_bits}

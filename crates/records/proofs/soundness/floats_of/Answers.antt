@@ -1,3 +1,4 @@
+-- A sound record 0 says that so many records fit.
 use Rattle.std.proofs.Common.{arith}
 use Rattle.records.proofs.PlacesLaws.{floats_read}
 use Rattle.records.proofs.SoundnessLaws.{sound_header}

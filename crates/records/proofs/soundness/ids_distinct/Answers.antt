@@ -1,3 +1,4 @@
+-- An id that is marked was seen before; one that is not gets its mark, and the ids of the records left differ as before.
 use Rattle.std.proofs.Common.{rules, arith, ◌≡◌, ◌∙◌, sym, ap, ℕ, List, length}
 use Rattle.std.specs.Slice.Iter.{chunks_exact_rest}
 use Rattle.std.proofs.lemmas.List.{length-set}

@@ -1,3 +1,4 @@
+-- Ids are compared only where every record is sound, and so in its ranges.
 use Rattle.std.proofs.Common.{rules, ◌≡◌, ◌&&◌, ◌∙◌, sym}
 use Rattle.ints.proofs.Truth.{and_left}
 use Rattle.records.specs.Records.{now_of, records_of}

@@ -1,3 +1,4 @@
+-- The row of every record may be read, since each is in its ranges, and `all` of them answers as the definition.
 use Rattle.std.proofs.Common.{rules, refl, ◌≡◌, true, ◌∷◌}
 use Rattle.records.specs.Records.{record_from}
 use Rattle.records.specs.Soundness.{in_own_row, all_ranged}
