@@ -2,14 +2,18 @@
 -- Which test says who stays makes no difference (document 02, A12, changes the test alone).
 -- Assumes nothing.
 use mathlib.Core.Path.{◌≡◌, refl, sym, ap, ◌∙◌}
-use mathlib.Core.Bool.{Bool, true, false, cond, ◌||◌}
+use mathlib.Core.Bool.{Bool, true, false, cond, not, ◌||◌}
 use mathlib.Core.List.{List, [], ◌∷◌}
 use Prim.Native.Nat.{ℕ, suc, ◌+◌, ◌*◌, ◌≤◌, ◌<◌}
 use native.Mathlib.Omega.{arith}
-use lib.IntN.{ℤ, pos}
+use lib.IntN.{ℤ, pos, ◌+ℤ◌}
+use lib.Signed.{le_z, lt_z}
 use lib.ListN.{length, get_or, drop}
 use lib.Seq.{drop-length}
-use mir.Val.{bool_byte}
+use mir.Syntax.{w32, w64}
+use mir.Val.{bool_byte, SFits}
+use Rattle.ints.proofs.Parts.{signed, add}
+use Rattle.ints.proofs.Machine.{fits, of_fits}
 use Rattle.ints.specs.Whole.{eq_z}
 use Rattle.ints.specs.Lists.{passing, some, every}
 use Rattle.ints.proofs.Same.{same_is}
@@ -26,6 +30,19 @@ use Rattle.records.proofs.PlacesLaws.{drop-record}
 use Rattle.store.specs.Finding.{index_of}
 use Rattle.store.proofs.FindingLaws.{first_same}
 use Rattle.retiring.specs.Retiring.{kept}
+
+-- ---- whether a float stays, in 64 bits
+
+-- below is not at most the other way round
+pub below : (a b : ℤ) → lt_z a b ≡ not (le_z b a)
+below a b = go (le_z b a) refl
+  where
+    go : (t : Bool) → le_z b a ≡ t → lt_z a b ≡ not t
+    go true e = omega (arith, signed)
+    go false e = omega (arith, signed)
+
+pub silent_from : (t : ℤ) → SFits w32 t → SFits w64 (t +ℤ pos 2592000)
+silent_from t f = let g = of_fits w32 t f in fits (omega (arith, add t (pos 2592000)))
 
 -- ---- a truth value counted
 

@@ -11,7 +11,6 @@ ghost use Rattle.store.specs.Needs.{KeptFirst};
 ghost use Rattle.retiring.specs.Retiring.{kept};
 ghost use Rattle.retiring.specs.Needs.{HasAsked, RetireAsked};
 
-use grid::wide_signed;
 use records::{RECORD_WORDS, Record, held_of};
 use store::finding::index_of;
 use store::writing::{keep_first, write_record};
@@ -26,20 +25,18 @@ const FIRST_TIME: usize = RECORD_WORDS + 2;
 fn stays(time: i32, t: i32) -> bool
     ensures { result ≡ not (is_silent time t) }
 {
-    wide_signed(time) < wide_signed(t) + SILENCE
+    i64::from(time) < i64::from(t) + SILENCE
 }
 
 // How many floats stay when the clock steps to a time, in one pass without a branch.
+#[tactic(auto, using(records::proofs::PlacesLaws::store_room))]
 pub fn left_at(store: &[i32], time: i32) -> usize
     requires { IsStore store.now }
     ensures { result ≡ length (kept (stays_at time) (records_of store.now)) }
 {
-    let n = held_of(store);
     let mut left = 0;
-    let mut i = 0;
-    while i < n {
-        left += stays(time, store[RECORD_WORDS * i + FIRST_TIME]) as usize;
-        i += 1;
+    for i in 0..held_of(store) {
+        left += usize::from(stays(time, store[RECORD_WORDS * i + FIRST_TIME]));
     }
     left
 }
@@ -49,11 +46,10 @@ pub fn has_left(store: &[i32], id: i32, time: i32) -> bool
     requires { HasAsked store.now }
     ensures { result ≡ has_id id (kept (stays_at time) (records_of store.now)) }
 {
-    let i = index_of(store, id);
-    if held_of(store) <= i {
-        return false;
+    match index_of(store, id) {
+        Some(i) => stays(time, store[RECORD_WORDS * i + FIRST_TIME]),
+        None => false,
     }
-    stays(time, store[RECORD_WORDS * i + FIRST_TIME])
 }
 
 // One pass over the records: one that stays is written after those kept before it. Gives back how many are kept. The count and the words after them stay as
@@ -62,17 +58,12 @@ fn keep_staying(store: &mut [i32], time: i32) -> usize
     requires { IsStore store.old }
     ensures { KeptFirst (λ r. stays_at time r.report) store.old result store.new }
 {
-    let n = held_of(store);
     let mut k = 0;
-    let mut i = 0;
-    while i < n {
+    for i in 0..held_of(store) {
         let r = Record::read_from(store, RECORD_WORDS * i + RECORD_WORDS);
         if stays(time, r.report.t) {
             write_record(store, RECORD_WORDS * k + RECORD_WORDS, r);
             k += 1;
-            i += 1;
-        } else {
-            i += 1;
         }
     }
     k

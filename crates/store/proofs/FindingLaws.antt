@@ -3,23 +3,21 @@
 use mathlib.Core.Path.{◌≡◌, refl, sym, ap, ◌∙◌}
 use mathlib.Core.Bool.{Bool, true, false, cond}
 use mathlib.Core.List.{List, [], ◌∷◌, Memᴰ}
-use Prim.Native.Nat.{ℕ, zero, suc, ◌+◌, ◌-◌, ◌*◌, ◌/◌, ◌≤◌, ◌<◌, ◌^◌}
+use Prim.Native.Nat.{ℕ, zero, suc, ◌+◌, ◌-◌, ◌*◌, ◌/◌, ◌≤◌, ◌<◌}
 use native.Mathlib.Omega.{arith}
 use lib.IntN.{ℤ}
-use lib.Signed.{mag}
 use lib.ListN.{length, get_or, drop}
 use lib.Seq.{drop-nil, drop-drop}
-use mir.Syntax.{w32}
-use mir.Val.{hbits}
-use Rattle.ints.specs.Whole.{eq_z}
+use borrow.Author.Tests.{ltb-true, ltb-false, lt-ltb, le-ltb}
+use Rattle.std.specs.Prelude.{Some, None, nat_lt}
 use Rattle.ints.proofs.Parts.{true_false}
-use Rattle.ints.proofs.Machine.{back, held}
 use Rattle.records.specs.Records.{record_words, record_from, held_of, read_records, records_of}
 use Rattle.records.specs.Order.{precedes, is_sorted}
 use Rattle.records.specs.Places.{first_of}
-use Rattle.store.specs.Finding.{place_of, has_that}
+use Rattle.store.specs.Finding.{place_of, index_of, found_at}
 use Rattle.records.specs.declared.Record.{Record}
-use Rattle.records.proofs.PlacesLaws.{record_at}
+use Rattle.records.proofs.RecordsLaws.{held_records}
+use Rattle.records.proofs.PlacesLaws.{record_at, drop-record}
 use Rattle.records.proofs.OrderLaws.{before_all, sorted_rest}
 
 -- ---- a walk over the records, one by one
@@ -73,6 +71,9 @@ IsAt m a rs = (more : List Record) × (drop m rs ≡ a ∷ more)
 pub first_same : (a b : Record) (rs more : List Record) → a ∷ rs ≡ b ∷ more → a ≡ b
 first_same a b rs more e = ap (λ (l : List Record). get_or l 0 a) e
 
+pub at_middle : (s : List ℤ) (m : ℕ) (a : Record) → m < held_of s → a ≡ record_from s (record_words * m + record_words) → IsAt m a (records_of s)
+at_middle s m a h e = (drop (m + 1) (records_of s), drop-record s m h ∙ ap (λ (x : Record). x ∷ drop (m + 1) (records_of s)) (sym e))
+
 none_at : (m : ℕ) (a : Record) → IsAt m a [] → ⊥
 none_at m a at = let k = ap length (sym (drop-nil {A = Record} m) ∙ at.1) in omega arith
 
@@ -116,23 +117,32 @@ module _ (s : List ℤ) (r a : Record) (low high : ℕ) (o : is_sorted (records_
     pub search_above : x ≡ false → middle + 1 ≤ place_of r (records_of s)
     search_above t = let k = place_above r middle a (records_of s) at o (sym e ∙ t) in omega arith
 
--- what a test of the code says of the record that it read
-pub id_tested : (a b : Record) (r t : Bool) (z : ℤ) → a ≡ b → r ≡ eq_z (back w32 a.report.id) z → mag a.report.id < 2 ^ hbits w32 → r ≡ t → has_that z b ≡ t
-id_tested a b r t z e h g k = rw (← e, ← k, h, held w32 a.report.id g)
+-- ---- the number found, if there is one
 
--- the id that the code looks for, as the machine reads it back
-module _
-    (s : List ℤ) (n i : ℕ) (id : ℤ)
-    (e : first_of (has_that (back w32 id)) (records_of s) ≡ i + first_of (has_that (back w32 id)) (read_records (n - i) (drop (record_words * i + record_words) s)))
-    (g : mag id < 2 ^ hbits w32) where
-  as_read : first_of (has_that (back w32 id)) (records_of s) ≡ first_of (has_that id) (records_of s)
-  as_read = ap (λ (z : ℤ). first_of (has_that z) (records_of s)) (held w32 id g)
+pub found_here : (id : ℤ) (s : List ℤ) (i : ℕ) → i < held_of s → i ≡ index_of id (records_of s) → Some i ≡ found_at id (records_of s)
+found_here id s i h e =
+    let within : index_of id (records_of s) < length (records_of s) = omega (arith, held_records s) in
+    ap Some e ∙ sym (rw (lt-ltb (index_of id (records_of s)) (length (records_of s)) within))
 
-  pub index_here : i < n → has_that (back w32 id) (record_from s (record_words * i + record_words)) ≡ true → i ≡ first_of (has_that id) (records_of s)
-  index_here h t = walk_here (has_that (back w32 id)) s n i e h t ∙ as_read
+pub found_none : (id : ℤ) (s : List ℤ) (i : ℕ) → held_of s ≤ i → i ≡ index_of id (records_of s) → None ≡ found_at id (records_of s)
+found_none id s i h e =
+    let none : length (records_of s) ≤ index_of id (records_of s) = omega (arith, held_records s) in
+    sym (rw (le-ltb (index_of id (records_of s)) (length (records_of s)) none))
 
-  pub index_end : n ≤ i → i ≡ first_of (has_that id) (records_of s)
-  index_end h = walk_end (has_that (back w32 id)) s n i e h ∙ as_read
+-- what a caller learns
+pub some_found : (id : ℤ) (rs : List Record) (i : ℕ) → Some i ≡ found_at id rs → (i ≡ index_of id rs) × (i < length rs)
+some_found id rs i e = go (nat_lt (index_of id rs) (length rs)) refl e
+  where
+    go : (b : Bool) → nat_lt (index_of id rs) (length rs) ≡ b → Some i ≡ cond b (Some (index_of id rs)) None → (i ≡ index_of id rs) × (i < length rs)
+    go true t f =
+        let same : i ≡ index_of id rs = cc in
+        let within = ltb-true (index_of id rs) (length rs) t in
+        (same, omega arith)
+    go false t f = absurd (cc)
 
-pub index_read : (s : List ℤ) (id : ℤ) (p : ℕ) → p ≡ first_of (has_that (back w32 id)) (records_of s) → mag id < 2 ^ hbits w32 → p ≡ first_of (has_that id) (records_of s)
-index_read s id p e g = e ∙ ap (λ (z : ℤ). first_of (has_that z) (records_of s)) (held w32 id g)
+pub none_found : (id : ℤ) (rs : List Record) → None ≡ found_at id rs → length rs ≤ index_of id rs
+none_found id rs e = go (nat_lt (index_of id rs) (length rs)) refl e
+  where
+    go : (b : Bool) → nat_lt (index_of id rs) (length rs) ≡ b → None ≡ cond b (Some (index_of id rs)) None → length rs ≤ index_of id rs
+    go true t f = absurd (cc)
+    go false t f = ltb-false (index_of id rs) (length rs) t

@@ -7,22 +7,18 @@ use mathlib.Core.Bool.{Bool, true, false, cond, ◌||◌, or_assoc}
 use mathlib.Core.List.Memᴰ
 use mathlib.Core.List.{List, [], ◌∷◌, Memᴰ, ◌++◌, append_assoc}
 use mathlib.Core.Logic.{◌⊎◌, inl, inr, ⊎_elim}
-use Prim.Native.Nat.{ℕ, suc, ◌+◌, ◌-◌, ◌*◌, ◌≤◌, ◌<◌, ◌^◌}
+use Prim.Native.Nat.{ℕ, suc, ◌+◌, ◌-◌, ◌*◌, ◌≤◌, ◌<◌}
 use native.Mathlib.Omega.{arith}
 use lib.IntN.{ℤ, pos}
-use lib.ListN.{length, get_or, set, take, drop, length-append, length-take, length-drop}
-use lib.Signed.{mag}
-use lib.Seq.{take_at, drop_at, length-take-le}
-use mir.Syntax.{w32}
-use mir.Val.{hbits}
+use lib.ListN.{length, set, take, drop, length-append, length-take, length-drop}
+use lib.Seq.{paste, take-add, drop-drop, take_at, drop_at, length-take-le}
+use Rattle.std.specs.List.{copy_within}
 use Rattle.ints.specs.Whole.{eq_z}
 use Rattle.ints.specs.Lists.{some, every}
 use Rattle.ints.proofs.Parts.{true_false}
 use Rattle.ints.proofs.Truth.{and_left, and_right, or_swap}
 use Rattle.ints.proofs.Same.{same_comm}
 use Rattle.ints.proofs.Lists.{none_passes, every_each, each_every}
-use Rattle.ints.proofs.Machine.{back, held}
-use Rattle.ints.proofs.Stretches.{moved_up, up_more, up_end}
 use Rattle.grid.specs.Units.{capacity}
 use Rattle.records.specs.Order.{precedes, is_sorted, has_id}
 use Rattle.records.specs.Soundness.{ids_distinct}
@@ -203,22 +199,6 @@ all_sorted (d ∷ ds) ks a s =
 
 -- ---- one record, as a change of the words
 
--- words moved up by seven places, as the code writes them
-pub moved_up_lem :
-    (l w : List ℤ) (i : ℕ)
-    → w ≡ moved_up (pos 0) record_words l i
-    → record_words < i
-    → i ≤ length l
-    → mag (get_or w (i - 1 - record_words) (pos 0)) < 2 ^ hbits w32
-    → set w (i - 1) (back w32 (get_or w (i - 1 - record_words) (pos 0))) ≡ moved_up (pos 0) record_words l (i - 1)
-moved_up_lem l w i e h g f =
-    let k : suc (i - 1) ≡ i = omega arith in
-    let m = up_more (pos 0) record_words l (i - 1) (omega arith) (omega arith) in
-    rw (held w32 (get_or w (i - 1 - record_words) (pos 0)) f, e) (rw k at m)
-
-pub up_done : (l w : List ℤ) (i : ℕ) → w ≡ moved_up (pos 0) record_words l i → record_words ≤ i → i ≤ record_words → w ≡ take record_words l ++ take (length l - record_words) l
-up_done l w i e h g = let k : i ≡ record_words = omega arith in e ∙ rw k (up_end (pos 0) record_words l)
-
 pub inserted_at : (r : Record) (rs : List Record) → inserted r rs ≡ take (place_of r rs) rs ++ (r ∷ drop (place_of r rs) rs)
 unfolding first_of inserted
 inserted_at r [] = refl
@@ -231,34 +211,33 @@ inserted_at r (a ∷ rs) = go (precedes r a) (inserted_at r rs)
     go true h = refl
     go false h = ap (λ (l : List Record). a ∷ l) h
 
--- seven words opened at a place, and written over
-pub opened :
-    (a b z e v w ys m : List ℤ) (k n : ℕ)
+-- the words from a place on moved up by seven, and seven written over there
+opened :
+    (a b z e v m : List ℤ) (k n : ℕ)
     → length a ≡ k
     → length z ≡ record_words
-    → n ≡ length b + record_words
+    → length b ≡ n
     → (s : List ℤ)
     → s ≡ a ++ (b ++ (z ++ e))
-    → w ≡ take n (drop k s)
-    → ys ≡ take record_words w ++ take (length w - record_words) w
-    → m ≡ take k s ++ (ys ++ drop n (drop k s))
+    → m ≡ paste s (k + record_words) (drop k s) n
     → take k m ++ (v ++ drop (k + record_words) m) ≡ a ++ (v ++ (b ++ e))
-opened a b z e v w ys m k n ka kz kn s es ew ey em =
-    let x = b ++ z in
-    let t = take record_words x in
-    let lx : length x ≡ n = simp length-append (omega arith) in
+opened a b z e v m k n ka kz kn s es em =
+    let t = take record_words (drop k s) in
     let tk : take k s ≡ a = ap (take k) es ∙ take_at a (b ++ (z ++ e)) k ka in
-    let dk : drop k s ≡ x ++ e = ap (drop k) es ∙ drop_at a (b ++ (z ++ e)) k ka ∙ sym (append_assoc b z e) in
-    let wx : w ≡ x = ew ∙ ap (take n) dk ∙ take_at x e n lx in
-    let dn : drop n (drop k s) ≡ e = ap (drop n) dk ∙ drop_at x e n lx in
-    let lb : length b ≡ length x - record_words = omega arith in
-    let yt : ys ≡ t ++ b =
-    ey
-    ∙ ap (λ (l : List ℤ). take record_words l ++ take (length l - record_words) l) wx
-    ∙ ap (λ (l : List ℤ). t ++ l) (take_at b z (length x - record_words) lb) in
-    let lt : length t ≡ record_words = length-take-le record_words x (omega arith) in
+    let dk : drop k s ≡ b ++ (z ++ e) = ap (drop k) es ∙ drop_at a (b ++ (z ++ e)) k ka in
+    let ld : record_words ≤ length (drop k s) = rw dk (simp length-append (omega arith)) in
+    let lt : length t ≡ record_words = length-take-le record_words (drop k s) ld in
+    let first : take (k + record_words) s ≡ a ++ t = take-add k record_words s ∙ ap (λ (l : List ℤ). l ++ t) tk in
+    let moved : take n (drop k s) ≡ b = ap (take n) dk ∙ take_at b (z ++ e) n kn in
+    let bz : length (b ++ z) ≡ record_words + n = simp length-append (omega arith) in
+    let far : k + record_words + n ≡ k + (record_words + n) = omega arith in
+    let rest : drop (k + record_words + n) s ≡ e =
+    ap (λ (j : ℕ). drop j s) far
+    ∙ sym (drop-drop (record_words + n) k s)
+    ∙ ap (drop (record_words + n)) (dk ∙ sym (append_assoc b z e))
+    ∙ drop_at (b ++ z) e (record_words + n) bz in
     let mt : m ≡ a ++ (t ++ (b ++ e)) =
-    em ∙ (λ i. tk i ++ (yt i ++ dn i)) ∙ ap (λ (l : List ℤ). a ++ l) (append_assoc t b e) in
+    em ∙ (λ i. (first i ++ moved i) ++ rest i) ∙ append_assoc (a ++ t) b e ∙ append_assoc a t (b ++ e) in
     let la : length (a ++ t) ≡ k + record_words = simp length-append (omega arith) in
     let tm : take k m ≡ a = ap (take k) mt ∙ take_at a (t ++ (b ++ e)) k ka in
     let dm : drop (k + record_words) m ≡ b ++ e =
@@ -286,18 +265,17 @@ pub insert_done :
     → length (records_of s) < capacity
     → n ≡ held_of s
     → p ≡ place_of r (records_of s)
-    → (ys m m' : List ℤ)
+    → (m₁ m₂ m : List ℤ)
     → let k = record_words * p + record_words in
-    let e = record_words * n + record_words + record_words in
-    ys ≡ take record_words (take (e - k) (drop k s)) ++ take (length (take (e - k) (drop k s)) - record_words) (take (e - k) (drop k s))
-    → m ≡ take k (take k s ++ (ys ++ drop (e - k) (drop k s))) ++ (words_of r ++ drop (k + record_words) (take k s ++ (ys ++ drop (e - k) (drop k s))))
-    → m' ≡ set m 1 (pos (n + 1))
-    → m' ≡ store_of (now_of s) (inserted r (records_of s))
-insert_done s r n p q few en ep ys m m' ey em em' =
+    m₁ ≡ copy_within s k (record_words * n + record_words) (k + record_words)
+    → m₂ ≡ take k m₁ ++ (words_of r ++ drop (k + record_words) m₁)
+    → m ≡ set m₂ 1 (pos (n + 1))
+    → m ≡ store_of (now_of s) (inserted r (records_of s))
+insert_done s r n p q few en ep m₁ m₂ m e₁ e₂ em =
     let now = now_of s in
     let rs = records_of s in
     let k = record_words * p + record_words in
-    let e = record_words * n + record_words + record_words in
+    let e = record_words * n + record_words in
     let a = front now (length rs) p rs in
     let b = words_of_all (drop p rs) in
     let z = zeros (record_words * (capacity - suc (length rs))) in
@@ -305,12 +283,12 @@ insert_done s r n p q few en ep ys m m' ey em em' =
     let within : p ≤ length rs = omega (arith, first_within (precedes r) rs) in
     let es : s ≡ a ++ (b ++ (zeros record_words ++ z)) =
     q.words ∙ store_split now rs p ∙ ap (λ (l : List ℤ). a ++ (b ++ l)) (more_zeros (length rs) few) in
-    let lb : length b ≡ record_words * (length rs - p) = words_length (drop p rs) ∙ ap (λ (j : ℕ). record_words * j) (length-drop p rs) in
-    let o = opened a b (zeros record_words) z (words_of r) (take (e - k) (drop k s)) ys
-    (take k s ++ (ys ++ drop (e - k) (drop k s))) k (e - k) (front_length now (length rs) p rs within) refl (omega arith) s es refl ey refl in
+    let lw : length b ≡ record_words * (length rs - p) = words_length (drop p rs) ∙ ap (λ (j : ℕ). record_words * j) (length-drop p rs) in
+    let lb : length b ≡ e - k = omega arith in
+    let o = opened a b (zeros record_words) z (words_of r) m₁ k (e - k) (front_length now (length rs) p rs within) refl lb s es e₁ in
     let next : n + 1 ≡ suc (length rs) = omega arith in
-    em'
-    ∙ ap (λ (l : List ℤ). set l 1 (pos (n + 1))) (em ∙ o)
+    em
+    ∙ ap (λ (l : List ℤ). set l 1 (pos (n + 1))) (e₂ ∙ o)
     ∙ ap (λ (j : ℕ). front now j p rs ++ (words_of r ++ (b ++ z))) next
     ∙ sym (store_with now r rs p)
     ∙ ap (λ (j : ℕ). store_of now (take j rs ++ (r ∷ drop j rs))) ep

@@ -6,31 +6,30 @@ use mathlib.Core.Bool.{Bool, true, false, cond, ◌||◌}
 use mathlib.Core.List.Memᴰ
 use mathlib.Core.List.{List, [], ◌∷◌, Memᴰ, ◌++◌, append_assoc, append-nil}
 use mathlib.Core.Logic.{⊎_elim}
-use Prim.Native.Nat.{ℕ, suc, ◌+◌, ◌-◌, ◌*◌, ◌≤◌, ◌<◌, ◌^◌}
+use Prim.Native.Nat.{ℕ, suc, ◌+◌, ◌-◌, ◌*◌, ◌≤◌, ◌<◌}
 use native.Mathlib.Omega.{arith}
 use native.Mathlib.Numerals.{add-one}
 use lib.IntN.{ℤ, pos}
-use lib.ListN.{length, get_or, set, take, drop, replicate, length-append, length-take, length-drop, drop_of_length-le}
-use lib.Signed.{mag}
-use lib.Seq.{drop-cons, take_at, drop_at, take_all}
-use mir.Syntax.{w32}
-use mir.Val.{hbits}
+use lib.ListN.{length, get_or, set, take, drop, length-append, length-take, length-drop, drop_of_length-le}
+use lib.Seq.{paste, drop-cons, drop-drop, take_at, drop_at, take_all}
+use Rattle.std.specs.Prelude.{Some, None}
+use Rattle.std.specs.List.{copy_within}
 use Rattle.ints.specs.Whole.{eq_z}
 use Rattle.ints.specs.Lists.{some, every}
 use Rattle.ints.proofs.Parts.{true_false}
 use Rattle.ints.proofs.Lists.{every_each, each_every}
-use Rattle.ints.proofs.Machine.{back, held}
-use Rattle.ints.proofs.Stretches.{moved_down, down_more, down_end}
 use Rattle.grid.specs.Units.{capacity}
 use Rattle.records.specs.Order.{precedes, is_sorted, has_id}
 use Rattle.records.specs.declared.Record.{Record}
 use Rattle.records.specs.Records.{record_words, record_from, now_of, held_of, records_of, words_of, words_of_all, header, store_of}
 use Rattle.records.specs.Places.{HasWords, first_of}
 use Rattle.records.proofs.OrderLaws.{sorted_all, sorted_rest, sorted_cons, before_all, first_id, rest_other}
-use Rattle.records.proofs.RecordsLaws.{words_length, held_records}
+use Rattle.records.proofs.RecordsLaws.{words_length}
+use Rattle.records.proofs.PlacesLaws.{words_room}
 use Rattle.store.specs.Inserting.{inserted}
 use Rattle.store.specs.Removing.{removed}
-use Rattle.store.specs.Finding.{index_of}
+use Rattle.store.specs.Finding.{index_of, found_at}
+use Rattle.store.proofs.FindingLaws.{some_found, none_found}
 use Rattle.store.proofs.InsertingLaws.{inserted_front}
 use Rattle.store.proofs.WritingLaws.{words_append, front, zeros, front_length, store_split, more_zeros}
 
@@ -100,19 +99,6 @@ removed_other id r (a ∷ rs) e o = go (precedes r a) refl (removed_other id r r
 
 -- ---- as a change of the words
 
--- words moved down by seven places, as the code writes them
-pub moved_down_lem :
-    (l w : List ℤ) (i : ℕ)
-    → w ≡ moved_down (pos 0) record_words l i
-    → i < length l - record_words
-    → mag (get_or w (i + record_words) (pos 0)) < 2 ^ hbits w32
-    → set w i (back w32 (get_or w (i + record_words) (pos 0))) ≡ moved_down (pos 0) record_words l (i + 1)
-moved_down_lem l w i e h f = rw (held w32 (get_or w (i + record_words) (pos 0)) f, e) (down_more (pos 0) record_words l i (omega arith))
-
-pub down_done : (l w : List ℤ) (i : ℕ) → w ≡ moved_down (pos 0) record_words l i → record_words + i ≤ length l → length l - record_words ≤ i
-    → w ≡ drop record_words l ++ drop (length l - record_words) l
-down_done l w i e h g = e ∙ down_end (pos 0) record_words l i (omega arith)
-
 pub removed_at : (id : ℤ) (rs : List Record) → removed id rs ≡ take (index_of id rs) rs ++ drop (index_of id rs + 1) rs
 unfolding first_of removed
 removed_at id [] = refl
@@ -127,45 +113,39 @@ removed_at id (a ∷ rs) = go (eq_z a.report.id id) (removed_at id rs)
         let k : suc (index_of id rs) + 1 ≡ suc (index_of id rs + 1) = omega arith in
         rw k (ap (λ (l : List Record). a ∷ l) h)
 
--- the first seven words closed at a place
-pub closed :
-    (a v b e w ys : List ℤ) (k n : ℕ)
+-- the words behind seven moved down over them, and the last seven written over
+closed :
+    (a v b e ys m : List ℤ) (k n l : ℕ)
     → length a ≡ k
     → length v ≡ record_words
-    → n ≡ record_words + length b
+    → length b ≡ n
+    → l ≡ k + n
     → (s : List ℤ)
     → s ≡ a ++ (v ++ (b ++ e))
-    → w ≡ take n (drop k s)
-    → ys ≡ drop record_words w ++ zeros record_words
-    → take k s ++ (ys ++ drop n (drop k s)) ≡ a ++ (b ++ (zeros record_words ++ e))
-closed a v b e w ys k n ka kv kn s es ew ey =
-    let x = v ++ b in
-    let z = zeros record_words in
-    let lx : length x ≡ n = simp length-append (omega arith) in
+    → m ≡ paste s k (drop (k + record_words) s) n
+    → take l m ++ (ys ++ drop (l + record_words - l) (drop l m)) ≡ a ++ (b ++ (ys ++ e))
+closed a v b e ys m k n l ka kv kn kl s es em =
     let tk : take k s ≡ a = ap (take k) es ∙ take_at a (v ++ (b ++ e)) k ka in
-    let dk : drop k s ≡ x ++ e = ap (drop k) es ∙ drop_at a (v ++ (b ++ e)) k ka ∙ sym (append_assoc v b e) in
-    let wx : w ≡ x = ew ∙ ap (take n) dk ∙ take_at x e n lx in
-    let dn : drop n (drop k s) ≡ e = ap (drop n) dk ∙ drop_at x e n lx in
-    let yb : ys ≡ b ++ z =
-    ey ∙ ap (λ (l : List ℤ). l ++ z) (ap (drop record_words) wx ∙ drop_at v b record_words kv) in
-    (λ i. tk i ++ (yb i ++ dn i)) ∙ ap (λ (l : List ℤ). a ++ l) (append_assoc b z e)
-
--- the first seven words dropped and the last seven zeroed
-pub closed_up :
-    (l m x : List ℤ) (r : Record)
-    → record_words ≤ length l
-    → m ≡ drop record_words l ++ drop (length l - record_words) l
-    → words_of r ≡ replicate record_words (pos 0)
-    → x ≡ take (length l - record_words) m ++ (words_of r ++ drop (length l - record_words + record_words) m)
-    → x ≡ drop record_words l ++ replicate record_words (pos 0)
-closed_up l m v r h e f g =
-    let x = drop record_words l in
-    let y = drop (length l - record_words) l in
-    let lx : length x ≡ length l - record_words = length-drop record_words l in
-    let lm : length m ≤ length l - record_words + record_words =
-    rw (e, length-append, length-drop record_words l, length-drop (length l - record_words) l) (omega arith) in
-    let tm : take (length l - record_words) m ≡ x = ap (take (length l - record_words)) e ∙ take_at x y (length l - record_words) lx in
-    g ∙ (λ i. tm i ++ (f i ++ drop_of_length-le m lm i))
+    let av : length (a ++ v) ≡ k + record_words = simp length-append (omega arith) in
+    let dk : drop (k + record_words) s ≡ b ++ e =
+    ap (drop (k + record_words)) (es ∙ sym (append_assoc a v (b ++ e))) ∙ drop_at (a ++ v) (b ++ e) (k + record_words) av in
+    let moved : take n (drop (k + record_words) s) ≡ b = ap (take n) dk ∙ take_at b e n kn in
+    let w = drop (k + n) s in
+    let mt : m ≡ (a ++ b) ++ w = em ∙ (λ i. (tk i ++ moved i) ++ w) in
+    let ab : length (a ++ b) ≡ l = simp length-append (omega arith) in
+    let first : take l m ≡ a ++ b = ap (take l) mt ∙ take_at (a ++ b) w l ab in
+    let behind : drop l m ≡ w = ap (drop l) mt ∙ drop_at (a ++ b) w l ab in
+    let seven : l + record_words - l ≡ record_words = omega arith in
+    let far : k + n + record_words ≡ k + record_words + n = omega arith in
+    let rest : drop record_words w ≡ e =
+    drop-drop record_words (k + n) s
+    ∙ ap (λ (j : ℕ). drop j s) far
+    ∙ sym (drop-drop n (k + record_words) s)
+    ∙ ap (drop n) dk
+    ∙ drop_at b e n kn in
+    (λ i. first i ++ (ys ++ drop (seven i) (behind i)))
+    ∙ ap (λ (x : List ℤ). (a ++ b) ++ (ys ++ x)) rest
+    ∙ append_assoc a b (ys ++ e)
 
 store_without :
     (now : ℤ) (rs : List Record) (i : ℕ)
@@ -192,51 +172,56 @@ pub remove_at_done :
     → HasWords s
     → n ≡ held_of s
     → p < held_of s
-    → (ys m : List ℤ)
+    → (m₁ ys m : List ℤ)
     → let k = record_words * p + record_words in
-    let e = record_words * n + record_words in
-    ys ≡ drop record_words (take (e - k) (drop k s)) ++ zeros record_words
-    → m ≡ set (take k s ++ (ys ++ drop (e - k) (drop k s))) 1 (pos (n - 1))
+    let l = record_words * n in
+    m₁ ≡ copy_within s (k + record_words) (l + record_words) k
+    → length m₁ ≡ length s
+    → ys ≡ zeros (length (take (l + record_words - l) (drop l m₁)))
+    → m ≡ set (take l m₁ ++ (ys ++ drop (l + record_words - l) (drop l m₁))) 1 (pos (n - 1))
     → m ≡ store_of (now_of s) (take p (records_of s) ++ drop (p + 1) (records_of s))
 unfolding words_of_all
-remove_at_done s n p q en h ys m ey em =
+remove_at_done s n p q en h m₁ ys m e₁ l₁ ey em =
     let now = now_of s in
     let rs = records_of s in
     let k = record_words * p + record_words in
-    let e = record_words * n + record_words in
+    let l = record_words * n in
+    let room = words_room s q in
     let a = front now (length rs) p rs in
     let r = get_or rs p (record_from [] 0) in
     let b = words_of_all (drop (p + 1) rs) in
     let z = zeros (record_words * (capacity - length rs)) in
-    let count : length rs ≡ n = held_records s ∙ sym en in
+    let count : length rs ≡ n = room.count ∙ sym en in
+    let few : length rs ≤ capacity = q.few in
     let here : p < length rs = omega arith in
     let split : drop p rs ≡ r ∷ drop (p + 1) rs = rw add-one (drop-cons rs p (record_from [] 0) here) in
     let es : s ≡ a ++ (words_of r ++ (b ++ z)) =
-    q.words ∙ store_split now rs p ∙ ap (λ (l : List Record). a ++ (words_of_all l ++ z)) split in
-    let lb : length b ≡ record_words * (length rs - (p + 1)) = words_length (drop (p + 1) rs) ∙ ap (λ (j : ℕ). record_words * j) (length-drop (p + 1) rs) in
-    let o = closed a (words_of r) b z (take (e - k) (drop k s)) ys k (e - k) (front_length now (length rs) p rs (omega arith)) refl (omega arith) s es refl ey in
-    let few : length rs ≤ capacity = q.few in
+    q.words ∙ store_split now rs p ∙ ap (λ (x : List Record). a ++ (words_of_all x ++ z)) split in
+    let lw : length b ≡ record_words * (length rs - (p + 1)) = words_length (drop (p + 1) rs) ∙ ap (λ (j : ℕ). record_words * j) (length-drop (p + 1) rs) in
+    let lb : length b ≡ l + record_words - (k + record_words) = omega arith in
+    let last : length (take (l + record_words - l) (drop l m₁)) ≡ record_words = let long = room.long in simp (length-take, length-drop) (omega arith) in
+    let o = closed a (words_of r) b z ys m₁ k (l + record_words - (k + record_words)) l (front_length now (length rs) p rs (omega arith)) refl lb (omega arith) s es e₁ in
     em
-    ∙ ap (λ (l : List ℤ). set l 1 (pos (n - 1))) o
+    ∙ ap (λ (x : List ℤ). set x 1 (pos (n - 1))) (o ∙ ap (λ (x : List ℤ). a ++ (b ++ (x ++ z))) (ey ∙ ap zeros last))
     ∙ ap (λ (j : ℕ). front now (j - 1) p rs ++ (b ++ (zeros record_words ++ z))) (sym count)
     ∙ sym (store_without now rs p here few)
 
 pub remove_found :
     (s m : List ℤ) (id : ℤ) (p : ℕ)
-    → p ≡ index_of id (records_of s)
+    → Some p ≡ found_at id (records_of s)
     → m ≡ store_of (now_of s) (take p (records_of s) ++ drop (p + 1) (records_of s))
     → m ≡ store_of (now_of s) (removed id (records_of s))
-remove_found s m id p ep em =
+remove_found s m id p f em =
     let rs = records_of s in
     em
-    ∙ ap (λ (j : ℕ). store_of (now_of s) (take j rs ++ drop (j + 1) rs)) ep
+    ∙ ap (λ (j : ℕ). store_of (now_of s) (take j rs ++ drop (j + 1) rs)) (some_found id rs p f).0
     ∙ ap (store_of (now_of s)) (sym (removed_at id rs))
 
-pub remove_none : (s : List ℤ) (id : ℤ) (n p : ℕ) → HasWords s → n ≡ held_of s → p ≡ index_of id (records_of s) → n ≤ p → s ≡ store_of (now_of s) (removed id (records_of s))
-remove_none s id n p q en ep h =
+pub remove_none : (s : List ℤ) (id : ℤ) → HasWords s → None ≡ found_at id (records_of s) → s ≡ store_of (now_of s) (removed id (records_of s))
+remove_none s id q f =
     let rs = records_of s in
     let i = index_of id rs in
-    let count = held_records s in
+    let behind = none_found id rs f in
     let all : take i rs ≡ rs = take_all i rs (omega arith) in
     let none : drop (i + 1) rs ≡ [] = drop_of_length-le rs {i = i + 1} (omega arith) in
     q.words ∙ ap (store_of (now_of s)) (sym (removed_at id rs ∙ (λ j. all j ++ none j) ∙ append-nil rs))

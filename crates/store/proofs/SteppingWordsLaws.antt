@@ -7,7 +7,7 @@ use Prim.Native.Nat.{ℕ, ◌+◌, ◌-◌, ◌*◌, ◌≤◌, ◌<◌}
 use native.Mathlib.Omega.{arith}
 use lib.IntN.{ℤ}
 use lib.ListN.{length, take, drop, length-append, length-take, length-drop}
-use lib.Seq.{take_at}
+use lib.Seq.{take_at, length-take-le}
 use Rattle.ints.specs.Lists.{passing, every}
 use Rattle.ints.proofs.Truth.{and_true, and_left, and_right}
 use Rattle.ints.proofs.Lists.{map-append}
@@ -18,6 +18,7 @@ use Rattle.records.specs.Records.{record_words, record_from, now_of, held_of, re
 use Rattle.records.specs.Order.{phase_of_key}
 use Rattle.records.specs.Soundness.{is_ranged, all_ranged, IsStore}
 use Rattle.store.specs.Inserting.{inserted_all}
+use Rattle.store.specs.Sorting.{all_of}
 use Rattle.store.specs.Widening.{widened_by_all}
 use Rattle.store.specs.Stepping.{placed_in, lives_on, moves, replaced, moved_records}
 use Rattle.records.specs.Places.{HasWords}
@@ -28,7 +29,8 @@ use Rattle.records.proofs.RecordsLaws.{words_length, read_back, now_of-store, re
 use Rattle.records.proofs.SoundnessRangeLaws.{last_phase_lem}
 use Rattle.store.proofs.WritingLaws.{words_append}
 use Rattle.store.proofs.WritingKeptLaws.{Keeping, keeping_start, now_ranged, passes, fails, keeping_stays, keeping_goes, all_seen, keeping_end}
-use Rattle.store.proofs.SortingListsLaws.{no_records}
+use Rattle.store.proofs.SortingListsLaws.{all_none}
+use Rattle.store.proofs.SortingLaws.{read_part}
 use Rattle.store.proofs.SteppingLaws.{placed_ranged, halves_few}
 
 -- ---- the phases of a step are those of a time
@@ -165,32 +167,38 @@ unfolding inserted_all
 inserted_none rs = refl
 
 -- nothing to place
-pub none_stored : (s dead : List ℤ) (m : ℕ) → HasWords s → m ≡ 0 → s ≡ store_of (now_of s) (inserted_all (read_records m dead) (records_of s))
-none_stored s dead m q e =
-    q.words ∙ ap (store_of (now_of s)) (sym (ap (λ (l : List Record). inserted_all l (records_of s)) (no_records m dead e) ∙ inserted_none (records_of s)))
+pub none_stored : (s dead : List ℤ) → HasWords s → length dead ≡ 0 → s ≡ store_of (now_of s) (inserted_all (all_of dead) (records_of s))
+none_stored s dead q e =
+    q.words ∙ ap (store_of (now_of s)) (sym (ap (λ (l : List Record). inserted_all l (records_of s)) (all_none dead e) ∙ inserted_none (records_of s)))
 
 module _ (s₀ s dead : List ℤ) (now time : ℤ) (m : ℕ) (es : s ≡ store_of (now_of s₀) (passing (lives_on now time) (records_of s₀)))
     (k : Taken (phase_of time) (moves now time) (records_of s₀) m dead) where
   left : List Record
   left = passing (lives_on now time) (records_of s₀)
 
-  pub step_asks : (table : List ℤ) → IsStore s₀ → length table ≡ table_words → PlaceAsked s table dead m
+  -- the part of the words to which they are written
+  abbrev pub part : List ℤ
+  part = take (record_words * m) dead
+
+  pub step_asks : (table : List ℤ) → IsStore s₀ → length table ≡ table_words → PlaceAsked s table part
   unfolding left
   step_asks table q l =
       let f = q.few in
       let a = halves_few now time (records_of s₀) in
       let b : m ≡ length (replaced (phase_of time) (moves now time) (records_of s₀)) = sym (read_length m dead) ∙ ap length k.dead_are in
       let n : length (records_of s) ≡ length left = ap length (records_are (now_of s₀) left s es) in
+      let long : length part ≡ record_words * m = length-take-le (record_words * m) dead k.inside in
       record {
-        put_all = record { store = words_of_lem (now_of s₀) left s es (omega arith); inside = k.inside; total = omega arith };
-        widen_all = record { table_long = l; inside = k.inside; ranged = k.ranged };
+        put_all = record { store = words_of_lem (now_of s₀) left s es (omega arith); whole = omega arith; total = omega arith };
+        widen_all = record { table_long = l; whole = omega arith; ranged = ap all_ranged (read_part m dead k.inside) ∙ k.ranged };
       }
 
-  pub step_stored : (s' : List ℤ) → s' ≡ store_of (now_of s) (inserted_all (read_records m dead) (records_of s)) → s' ≡ store_of (now_of s₀) (moved_records now time (records_of s₀))
+  pub step_stored : (s' : List ℤ) → s' ≡ store_of (now_of s) (inserted_all (all_of part) (records_of s)) → s' ≡ store_of (now_of s₀) (moved_records now time (records_of s₀))
   unfolding left moved_records
   step_stored s' e =
-      e ∙ (λ i. store_of (now_is (now_of s₀) left s es i) (inserted_all (k.dead_are i) (records_are (now_of s₀) left s es i)))
+      let put = read_part m dead k.inside ∙ k.dead_are in
+      e ∙ (λ i. store_of (now_is (now_of s₀) left s es i) (inserted_all (put i) (records_are (now_of s₀) left s es i)))
 
 pub step_widened : (table table' dead : List ℤ) (to : ℕ) (moving : Record → Bool) (m : ℕ) (rs : List Record) → Taken to moving rs m dead
-    → table' ≡ widened_by_all table (read_records m dead) → table' ≡ widened_by_all table (replaced to moving rs)
-step_widened table table' dead to moving m rs k e = e ∙ ap (widened_by_all table) k.dead_are
+    → table' ≡ widened_by_all table (all_of (take (record_words * m) dead)) → table' ≡ widened_by_all table (replaced to moving rs)
+step_widened table table' dead to moving m rs k e = e ∙ ap (widened_by_all table) (read_part m dead k.inside ∙ k.dead_are)

@@ -28,9 +28,10 @@ use Rattle.records.specs.Soundness.{is_ranged, all_ranged}
 use Rattle.records.proofs.OrderKeysLaws.{slot_of-key_in}
 use Rattle.records.proofs.PlacesLaws.{rest_at}
 use Rattle.store.specs.Inserting.{inserted}
+use Rattle.store.specs.Sorting.{all_of}
 use Rattle.store.specs.Widening.{widened_by, widened_by_all}
 use Rattle.store.specs.Stepping.{placed_in, replaced}
-use Rattle.store.proofs.SortingListsLaws.{no_records}
+use Rattle.store.proofs.SortingListsLaws.{no_records, all_none}
 
 -- the row of a record's speeds alone
 abbrev pub own_row : Record → Row
@@ -254,5 +255,5 @@ widen_end table₀ dead m table j p h =
     sym (p.table_is ∙ ap (widened_by_all table) none ∙ speeds_none table)
 
 -- nothing to widen
-pub none_widened : (table dead : List ℤ) (m : ℕ) → m ≡ 0 → table ≡ widened_by_all table (read_records m dead)
-none_widened table dead m e = sym (ap (widened_by_all table) (no_records m dead e) ∙ speeds_none table)
+pub none_widened : (table dead : List ℤ) → length dead ≡ 0 → table ≡ widened_by_all table (all_of dead)
+none_widened table dead e = sym (ap (widened_by_all table) (all_none dead e) ∙ speeds_none table)

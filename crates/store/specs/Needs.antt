@@ -1,7 +1,7 @@
 -- What the functions that change a store ask, one record for each way of asking, and what the private ones hand on. Nothing here is part of what the
 -- public functions promise.
 -- Assumes nothing.
-use Rattle.std.specs.Prelude.{◌≡◌, Bool, true, List, ◌++◌, ℕ, ◌+◌, ◌-◌, ◌*◌, ◌≤◌, ◌<◌, ℤ, pos, length, take, drop, set, replicate}
+use Rattle.std.specs.Prelude.{◌≡◌, Bool, true, List, ◌++◌, ℕ, ◌+◌, ◌-◌, ◌*◌, ◌/◌, ◌≤◌, ◌<◌, ℤ, pos, length, take, drop, set, replicate}
 use Rattle.ints.specs.Lists.{passing}
 use Rattle.grid.specs.Units.{capacity}
 use Rattle.grid.specs.Curve.{IsCurve}
@@ -12,10 +12,17 @@ use Rattle.rows.specs.Table.{table_words}
 use Rattle.records.specs.Records.{record_words, held_of, read_records, records_of, words_of_all, float_words}
 use Rattle.records.specs.Order.{is_sorted}
 use Rattle.records.specs.Soundness.{is_ranged, all_ranged, IsStore}
+use Rattle.store.specs.Sorting.{all_of}
 use Rattle.store.specs.Stepping.{replaced}
 use Rattle.store.specs.declared.stepping.Step.{Step}
 use Rattle.records.specs.declared.Record.{Record}
 use Rattle.records.specs.Places.{HasWords}
+
+-- ---- words that are those of records
+
+-- some words that are made up of whole records
+abbrev pub AreRecords : List ℤ → Type 0
+AreRecords w = length w ≡ record_words * (length w / record_words)
 
 -- ---- writing.rt: the count of floats held
 
@@ -46,12 +53,7 @@ pub record PlaceOfAsked (s : List ℤ) : Type 0 where
 
 -- ---- inserting.rt: a record put in
 
--- such a store with room for one more record; the public function also asks that store and record are in range
-pub record PutAsked (s : List ℤ) : Type 0 where
-  pub store : HasWords s
-  pub sorted : is_sorted (records_of s) ≡ true
-  pub room : length (records_of s) < capacity
-
+-- a store that is sorted and in range with room for one more record, and a record in range
 pub record InsertAsked (s : List ℤ) (r : Record) : Type 0 where
   pub store : IsStore s
   pub ranged : is_ranged r ≡ true
@@ -66,56 +68,47 @@ pub record RemoveAsked (s : List ℤ) (i : ℕ) : Type 0 where
 
 -- ---- widening.rt: the rows of some records widened
 
--- a table, and m records in range, each of whose rows is widened
-pub record WidenAllAsked (table dead : List ℤ) (m : ℕ) : Type 0 where
+-- a table, and records in range, each of whose rows is widened
+pub record WidenAllAsked (table dead : List ℤ) : Type 0 where
   pub table_long : length table ≡ table_words
-  pub inside : record_words * m ≤ length dead
-  pub ranged : all_ranged (read_records m dead) ≡ true
+  pub whole : AreRecords dead
+  pub ranged : all_ranged (all_of dead) ≡ true
 
 -- ---- sorting.rt: sorting and merging
 
--- what is left of n records of one list of words, i of them gone, and of m of another, j gone
-pub record NextAsked (a : List ℤ) (i n : ℕ) (b : List ℤ) (j m : ℕ) : Type 0 where
-  pub gone_first : i ≤ n
-  pub gone_second : j ≤ m
-  pub first : record_words * n ≤ length a
-  pub second : record_words * m ≤ length b
+-- what is left of the records of two lists of words
+pub record NextAsked (a b : List ℤ) : Type 0 where
+  pub first : AreRecords a
+  pub second : AreRecords b
 
--- n records of one list of words, m of another, and words for all of them
-pub record MergeAsked (a : List ℤ) (n : ℕ) (b : List ℤ) (m : ℕ) (out : List ℤ) : Type 0 where
-  pub first : record_words * n ≤ length a
-  pub second : record_words * m ≤ length b
-  pub room : length out ≡ record_words * (n + m)
-  pub few : n + m ≤ capacity
+-- records in two lists of words, and words for all of them
+pub record MergeAsked (a b out : List ℤ) : Type 0 where
+  pub first : AreRecords a
+  pub second : AreRecords b
+  pub room : length out ≡ length a + length b
+  pub few : length out ≤ float_words
 
--- n records, and as many words for them
-pub record HalvesAsked (w : List ℤ) (half n : ℕ) (out : List ℤ) : Type 0 where
-  pub within : half ≤ n
-  pub long : length w ≡ record_words * n
-  pub room : length out ≡ record_words * n
-  pub few : n ≤ capacity
-
--- n records, the same ones in both lists of words
-pub record SortAsked (w : List ℤ) (n : ℕ) (from : List ℤ) : Type 0 where
+-- records, the same ones in both lists of words
+pub record SortAsked (w from : List ℤ) : Type 0 where
   pub same : from ≡ w
-  pub long : length w ≡ record_words * n
-  pub few : n ≤ capacity
+  pub whole : AreRecords w
+  pub few : length w ≤ float_words
 
--- m records, words for them in order and words to work in
-pub record SortToAsked (dead : List ℤ) (m : ℕ) (sorted space : List ℤ) : Type 0 where
-  pub inside : record_words * m ≤ length dead
-  pub few : m ≤ capacity
-  pub sorted_room : length sorted ≡ float_words
-  pub space_room : length space ≡ float_words
+-- records, words for them in order and words to work in
+pub record SortToAsked (dead sorted space : List ℤ) : Type 0 where
+  pub whole : AreRecords dead
+  pub few : length dead ≤ float_words
+  pub sorted_room : length sorted ≡ length dead
+  pub space_room : length space ≡ length dead
 
--- m records to put into a store; merging them in also asks for words to work in
-pub record PutAllAsked (s dead : List ℤ) (m : ℕ) : Type 0 where
+-- records to put into a store; merging them in also asks for words to work in
+pub record PutAllAsked (s dead : List ℤ) : Type 0 where
   pub store : HasWords s
-  pub inside : record_words * m ≤ length dead
-  pub total : m + length (records_of s) ≤ capacity
+  pub whole : AreRecords dead
+  pub total : length dead / record_words + length (records_of s) ≤ capacity
 
-pub record MergeInAsked (s b : List ℤ) (m : ℕ) (space : List ℤ) : Type 0 where
-  pub put_all : PutAllAsked s b m
+pub record MergeInAsked (s b space : List ℤ) : Type 0 where
+  pub put_all : PutAllAsked s b
   pub room : length space ≡ float_words
 
 -- ---- stepping.rt: a report placed, and the clock step from now to a time
@@ -162,10 +155,10 @@ pub record Taken (p : ℕ) (moving : Record → Bool) (rs : List Record) (m : �
   pub inside : record_words * m ≤ length dead
   pub ranged : all_ranged (read_records m dead) ≡ true
 
--- m records to put into a store, and to widen a table's rows by
-pub record PlaceAsked (s table dead : List ℤ) (m : ℕ) : Type 0 where
-  pub put_all : PutAllAsked s dead m
-  pub widen_all : WidenAllAsked table dead m
+-- records to put into a store, and to widen a table's rows by
+pub record PlaceAsked (s table dead : List ℤ) : Type 0 where
+  pub put_all : PutAllAsked s dead
+  pub widen_all : WidenAllAsked table dead
 
 -- a store and a table over which the clock steps
 pub record StepAsked (s table : List ℤ) (step : Step) : Type 0 where

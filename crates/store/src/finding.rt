@@ -1,30 +1,27 @@
 // Where a record stands in a store: the place for one to put in, and the record of an id.
 ghost use Rattle.std.specs.Prelude.{◌≡◌, ◌≤◌, ◌+◌, ◌*◌, length};
 ghost use Rattle.records.specs.Records.{record_words, held_of, records_of};
-ghost use Rattle.store.specs.Finding.{place_of, index_of};
+ghost use Rattle.store.specs.Finding.{place_of, found_at};
 ghost use Rattle.store.specs.Needs.{PlaceOfAsked};
 
-use records::order::{is_same, precedes};
+use records::order::precedes;
 use records::{RECORD_WORDS, Record, held_of};
 
-// How many records stand before the one of an id; all of them where none has it.
-pub fn index_of(store: &[i32], id: i32) -> usize
+// How many records stand before the one of an id, where one has it.
+pub fn index_of(store: &[i32], id: i32) -> Option<usize>
     requires { record_words * held_of store.now + record_words ≤ length store.now }
-    ensures { result ≡ index_of id (records_of store.now) }
+    ensures { result ≡ found_at id (records_of store.now) }
 {
-    let n = held_of(store);
-    let mut i = 0;
-    while i < n {
+    for i in 0..held_of(store) {
         let a = Record::read_from(store, RECORD_WORDS * i + RECORD_WORDS);
-        if is_same(a.report.id, id) {
-            return i;
+        if a.report.id == id {
+            return Some(i);
         }
-        i += 1;
     }
-    i
+    None
 }
 
-// How many records stand before the place of r: binary search.
+// How many records stand before the place of r. A binary search by hand, since the one of std goes over elements of a slice, and a record is seven words.
 pub fn place_of(store: &[i32], r: Record) -> usize
     requires { PlaceOfAsked store.now }
     ensures { result ≡ place_of r (records_of store.now) }

@@ -3,8 +3,9 @@
 ghost use Rattle.std.specs.Prelude.{◌≡◌, ◌-◌};
 ghost use Rattle.ints.specs.Lists.{passing};
 ghost use Rattle.rows.specs.Phases.{phase_of};
-ghost use Rattle.records.specs.Records.{now_of, held_of, read_records, records_of, store_of};
+ghost use Rattle.records.specs.Records.{now_of, held_of, records_of, store_of};
 ghost use Rattle.store.specs.Inserting.{inserted_all};
+ghost use Rattle.store.specs.Sorting.{all_of};
 ghost use Rattle.store.specs.Widening.{widened_by_all};
 ghost use Rattle.store.specs.Stepping.{placed_in, lives_on, moves, replaced, moved_records};
 ghost use Rattle.store.specs.Needs.{ReportAsked, PlaceByAsked, AreTimes, IsStep, TakeAsked, KeptFirst, Taken, PlaceAsked, StepAsked};
@@ -32,20 +33,20 @@ impl Step {
         ensures { (result.now ≡ now) × (result.time ≡ time) × (IsStep result) }
     {
         Step {
-            now: now,
-            time: time,
+            now,
+            time,
             from: phase_of(now),
             to: phase_of(time),
         }
     }
-}
 
-// Whether a record's phase lives on: it stays as it is.
-fn lives_on(step: Step, r: Record) -> bool
-    requires { IsStep step }
-    ensures { result ≡ lives_on step.now step.time r }
-{
-    is_live(step.to, phase_of_key(step.from, r.key))
+    // Whether a record's phase lives on: it stays as it is.
+    fn lives_on(self, r: Record) -> bool
+        requires { IsStep self }
+        ensures { result ≡ lives_on self.now self.time r }
+    {
+        is_live(self.to, phase_of_key(self.from, r.key))
+    }
 }
 
 // A report placed in phase p. `numbers` is the grid's table of curve numbers.
@@ -75,22 +76,18 @@ fn keep_live(store: &mut [i32], step: Step, dead: &mut [i32]) -> usize
     ensures taken { Taken (phase_of step.time) (moves step.now step.time) (records_of store.old) (held_of store.old - result) dead.new }
 {
     let numbers = grid::curve_numbers();
-    let n = held_of(store);
     let mut k = 0;
-    let mut i = 0;
-    while i < n {
+    for i in 0..held_of(store) {
         let r = Record::read_from(store, RECORD_WORDS * i + RECORD_WORDS);
-        if lives_on(step, r) {
+        if step.lives_on(r) {
             write_record(store, RECORD_WORDS * k + RECORD_WORDS, r);
             k += 1;
-            i += 1;
         } else {
             write_record(
                 dead,
                 RECORD_WORDS * (i - k),
                 place_by(&numbers, step.to, r.report),
             );
-            i += 1;
         }
     }
     k
@@ -108,17 +105,17 @@ fn take_dead(store: &mut [i32], step: Step, dead: &mut [i32]) -> usize
     n - k
 }
 
-// Puts the first m records of `dead` into the store, and widens the row of each.
-fn place_dead(store: &mut [i32], table: &mut [i16], dead: &[i32], m: usize)
-    requires { PlaceAsked store.old table.old dead.now m }
-    ensures store_after { store.new ≡ store_of (now_of store.old) (inserted_all (read_records m dead.now) (records_of store.old)) }
-    ensures table_after { table.new ≡ widened_by_all table.old (read_records m dead.now) }
+// Puts the records of `dead` into the store, and widens the row of each.
+fn place_dead(store: &mut [i32], table: &mut [i16], dead: &[i32])
+    requires { PlaceAsked store.old table.old dead.now }
+    ensures store_after { store.new ≡ store_of (now_of store.old) (inserted_all (all_of dead.now) (records_of store.old)) }
+    ensures table_after { table.new ≡ widened_by_all table.old (all_of dead.now) }
 {
-    if m == 0 {
+    if dead.is_empty() {
         return;
     }
-    widen_all(table, dead, m);
-    put_all(store, dead, m);
+    widen_all(table, dead);
+    put_all(store, dead);
 }
 
 // The records that move are placed in the phase of the time, and the row of each is widened. The time itself is set apart.
@@ -129,5 +126,5 @@ pub fn move_records(store: &mut [i32], table: &mut [i16], step: Step)
 {
     let mut dead = [0i32; records::FLOAT_WORDS];
     let m = take_dead(store, step, &mut dead);
-    place_dead(store, table, &dead, m);
+    place_dead(store, table, &dead[..RECORD_WORDS * m]);
 }

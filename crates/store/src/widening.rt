@@ -1,7 +1,7 @@
 // The rows of a table widened by the speeds of records, each in the row of its cell.
 ghost use Rattle.std.specs.Prelude.{◌≡◌};
-ghost use Rattle.records.specs.Records.{read_records};
 ghost use Rattle.records.specs.Needs.{CanFindRow};
+ghost use Rattle.store.specs.Sorting.{all_of};
 ghost use Rattle.store.specs.Widening.{widened_by, widened_by_all};
 ghost use Rattle.store.specs.Needs.{WidenAllAsked};
 
@@ -23,14 +23,12 @@ pub fn widen(table: &mut [i16], r: Record)
     );
 }
 
-// Widens the row of each of the first m records of `dead`.
-pub fn widen_all(table: &mut [i16], dead: &[i32], m: usize)
-    requires { WidenAllAsked table.old dead.now m }
-    ensures { table.new ≡ widened_by_all table.old (read_records m dead.now) }
+// Widens the row of each of the records of `dead`.
+pub fn widen_all(table: &mut [i16], dead: &[i32])
+    requires { WidenAllAsked table.old dead.now }
+    ensures { table.new ≡ widened_by_all table.old (all_of dead.now) }
 {
-    let mut j = 0;
-    while j < m {
+    for j in 0..dead.len() / RECORD_WORDS {
         widen(table, Record::read_from(dead, RECORD_WORDS * j));
-        j += 1;
     }
 }

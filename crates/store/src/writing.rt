@@ -4,7 +4,6 @@ ghost use Rattle.records.specs.Records.{record_words, records_of, words_of, stor
 ghost use Rattle.records.specs.Soundness.{IsStore};
 ghost use Rattle.store.specs.Needs.{HeldAsked, KeepAsked, first_kept};
 
-use super::opening::clear;
 use records::{RECORD_WORDS, Record};
 
 // Writes a record over the seven words at k.
@@ -13,20 +12,10 @@ pub fn write_record(words: &mut [i32], k: usize, r: Record)
     ensures { words.new ≡ take k words.old ++ (words_of r ++ drop (k + record_words) words.old) }
 {
     let report = r.report;
-    let key = r.key;
-    let id = report.id;
-    let t = report.t;
-    let x = report.x;
-    let y = report.y;
-    let vx = report.vx;
-    let vy = report.vy;
-    words[k] = key;
-    words[k + 1] = id;
-    words[k + 2] = t;
-    words[k + 3] = x;
-    words[k + 4] = y;
-    words[k + 5] = vx;
-    words[k + 6] = vy;
+    let new = [
+        r.key, report.id, report.t, report.x, report.y, report.vx, report.vy,
+    ];
+    words[k..k + RECORD_WORDS].copy_from_slice(&new);
 }
 
 // Sets the count of floats held, in record 0.
@@ -34,8 +23,7 @@ pub fn set_held(store: &mut [i32], n: usize)
     requires { HeldAsked store.old n }
     ensures { store.new ≡ set store.old 1 (pos n) }
 {
-    let w = n as i32;
-    store[1] = w;
+    store[1] = n as i32;
 }
 
 // Keeps the first k of n records: the words of the others are zeroed, and the count is set.
@@ -45,7 +33,7 @@ pub fn keep_first(store: &mut [i32], k: usize, n: usize)
 {
     let start = RECORD_WORDS * k + RECORD_WORDS;
     let end = RECORD_WORDS * n + RECORD_WORDS;
-    clear(&mut store[start..end]);
+    store[start..end].fill(0);
     set_held(store, k);
 }
 
