@@ -10,7 +10,8 @@ use mir.Syntax.{w32}
 use mir.Val.{hbits}
 use Rattle.ints.proofs.Machine.{back, held}
 use lib.ListN.{length, set, take, drop, replicate, length-append, take-append-drop, replicate-append-replicate}
-use lib.Seq.{drop-drop, length-take-le}
+use lib.Seq.{sets-eq, length-take-le}
+use native.Mathlib.Numerals.{towards_suc}
 use Rattle.grid.specs.Units.{capacity}
 use Rattle.records.specs.Records.{record_words, store_words, records_of, words_of, words_of_all, header, store_of}
 use Rattle.records.specs.Soundness.{IsStore}
@@ -19,9 +20,18 @@ use Rattle.records.specs.declared.Record.{Record}
 
 -- ---- a record, the time, and an empty store
 
--- a record's words, as the machine reads them, put in the place of seven
-pub record_put :
-    (s ys : List ℤ) (k : ℕ) (r : Record)
+-- a record written over seven words
+written :
+    (s : List ℤ) (k : ℕ) (a b c d e f g : ℤ)
+    → k + 7 ≤ length s
+    → set (set (set (set (set (set (set s k a) (k + 1) b) (k + 2) c) (k + 3) d) (k + 4) e) (k + 5) f) (k + 6) g ≡ take k s ++ ((a ∷ b ∷ c ∷ d ∷ e ∷ f ∷ g ∷ []) ++ drop (k + 7) s)
+written s k a b c d e f g h =
+    let vs = a ∷ b ∷ c ∷ d ∷ e ∷ f ∷ g ∷ [] in
+    simp towards_suc (sets-eq vs s k h ∙ append_assoc (take k s) vs (drop (k + 7) s) ∙ simp towards_suc)
+
+pub write_words :
+    (s : List ℤ) (k : ℕ) (r : Record)
+    → k + record_words ≤ length s
     → mag r.key < 2 ^ hbits w32
     → mag r.report.id < 2 ^ hbits w32
     → mag r.report.t < 2 ^ hbits w32
@@ -29,15 +39,20 @@ pub record_put :
     → mag r.report.y < 2 ^ hbits w32
     → mag r.report.vx < 2 ^ hbits w32
     → mag r.report.vy < 2 ^ hbits w32
-    → ys ≡ back w32 r.key ∷ back w32 r.report.id ∷ back w32 r.report.t ∷ back w32 r.report.x ∷ back w32 r.report.y ∷ back w32 r.report.vx ∷ back w32 r.report.vy ∷ []
-    → take k s ++ (ys ++ drop (k + record_words - k) (drop k s)) ≡ take k s ++ (words_of r ++ drop (k + record_words) s)
-record_put s ys k r ka ida ta xa ya vxa vya e =
-    let seven : k + record_words - k ≡ record_words = omega arith in
-    let words : ys ≡ words_of r =
-    e
-    ∙ (λ i. held w32 r.key ka i ∷ held w32 r.report.id ida i ∷ held w32 r.report.t ta i ∷ held w32 r.report.x xa i ∷ held w32 r.report.y ya i
-    ∷ held w32 r.report.vx vxa i ∷ held w32 r.report.vy vya i ∷ []) in
-    (λ i. take k s ++ (words i ++ drop (seven i) (drop k s))) ∙ ap (λ (l : List ℤ). take k s ++ (words_of r ++ l)) (drop-drop record_words k s)
+    → set (set (set (set (set (set (set s k (back w32 r.key)) (k + 1) (back w32 r.report.id)) (k + 2) (back w32 r.report.t))
+    (k + 3) (back w32 r.report.x)) (k + 4) (back w32 r.report.y)) (k + 5) (back w32 r.report.vx)) (k + 6) (back w32 r.report.vy)
+    ≡ take k s ++ (words_of r ++ drop (k + record_words) s)
+write_words s k r h ka ida ta xa ya vxa vya =
+    rw (
+      held w32 r.key ka,
+      held w32 r.report.id ida,
+      held w32 r.report.t ta,
+      held w32 r.report.x xa,
+      held w32 r.report.y ya,
+      held w32 r.report.vx vxa,
+      held w32 r.report.vy vya,
+    )
+    (written s k r.key r.report.id r.report.t r.report.x r.report.y r.report.vx r.report.vy h)
 
 pub now_set : (s : List ℤ) (t : ℤ) → IsStore s → set s 0 t ≡ store_of t (records_of s)
 unfolding store_of

@@ -22,6 +22,7 @@ pub fn index_of(store: &[i32], id: i32) -> Option<usize>
 }
 
 // How many records stand before the place of r. A binary search by hand, since the one of std goes over elements of a slice, and a record is seven words.
+#[tactic(auto, using(records::proofs::PlacesLaws::words_room))]
 pub fn place_of(store: &[i32], r: Record) -> usize
     requires { PlaceOfAsked store.now }
     ensures { result ≡ place_of r (records_of store.now) }

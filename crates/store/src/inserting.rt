@@ -8,6 +8,7 @@ use super::finding::place_of;
 use super::writing::{set_held, write_record};
 use records::{RECORD_WORDS, Record, held_of};
 
+#[tactic(auto, using(records::proofs::PlacesLaws::store_room, records::proofs::PlacesLaws::within))]
 pub fn insert(store: &mut [i32], r: Record)
     requires { InsertAsked store.old r }
     ensures { store.new ≡ store_of (now_of store.old) (inserted r (records_of store.old)) }

@@ -10,6 +10,7 @@ use super::writing::set_held;
 use records::{RECORD_WORDS, held_of};
 
 // Takes the record with i before it out: the records after it move down, and the words of the last one are zeroed.
+#[tactic(auto, using(records::proofs::PlacesLaws::words_room))]
 fn remove_at(store: &mut [i32], i: usize)
     requires { RemoveAsked store.old i }
     ensures { store.new ≡ store_of (now_of store.old) (take i (records_of store.old) ++ drop (i + 1) (records_of store.old)) }
@@ -24,6 +25,7 @@ fn remove_at(store: &mut [i32], i: usize)
 }
 
 // Takes the record of an id out, where there is one.
+#[tactic(auto, using(records::proofs::PlacesLaws::store_room))]
 pub fn remove(store: &mut [i32], id: i32)
     requires { IsStore store.old }
     ensures { store.new ≡ store_of (now_of store.old) (removed id (records_of store.old)) }

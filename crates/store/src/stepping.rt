@@ -70,6 +70,7 @@ pub fn place_in(p: usize, r: Report) -> Record
 
 // One pass over the records: one that stays is written after those kept before it, any other to `dead`, placed in the phase of the time. Gives back how
 // many are kept. The count and the words after the kept records stay as they are: `take_dead` sets them.
+#[tactic(auto, using(records::proofs::PlacesLaws::store_room))]
 fn keep_live(store: &mut [i32], step: Step, dead: &mut [i32]) -> usize
     requires { TakeAsked store.old step dead.old }
     ensures kept_first { KeptFirst (lives_on step.now step.time) store.old result store.new }
@@ -94,6 +95,7 @@ fn keep_live(store: &mut [i32], step: Step, dead: &mut [i32]) -> usize
 }
 
 // Takes the records that move out of the store, and writes them to `dead`, placed in the phase of the time. Gives back how many.
+#[tactic(auto, using(records::proofs::PlacesLaws::store_room))]
 fn take_dead(store: &mut [i32], step: Step, dead: &mut [i32]) -> usize
     requires { TakeAsked store.old step dead.old }
     ensures store_after { store.new ≡ store_of (now_of store.old) (passing (lives_on step.now step.time) (records_of store.old)) }

@@ -11,11 +11,13 @@ pub fn write_record(words: &mut [i32], k: usize, r: Record)
     requires { k + record_words ≤ length words.old }
     ensures { words.new ≡ take k words.old ++ (words_of r ++ drop (k + record_words) words.old) }
 {
-    let report = r.report;
-    let new = [
-        r.key, report.id, report.t, report.x, report.y, report.vx, report.vy,
-    ];
-    words[k..k + RECORD_WORDS].copy_from_slice(&new);
+    words[k] = r.key;
+    words[k + 1] = r.report.id;
+    words[k + 2] = r.report.t;
+    words[k + 3] = r.report.x;
+    words[k + 4] = r.report.y;
+    words[k + 5] = r.report.vx;
+    words[k + 6] = r.report.vy;
 }
 
 // Sets the count of floats held, in record 0.
@@ -38,6 +40,7 @@ pub fn keep_first(store: &mut [i32], k: usize, n: usize)
 }
 
 // Sets the time, in record 0.
+#[tactic(auto, using(records::proofs::PlacesLaws::store_room))]
 pub fn set_now(store: &mut [i32], t: i32)
     requires { IsStore store.old }
     ensures { store.new ≡ store_of t (records_of store.old) }

@@ -5,22 +5,10 @@ use Rattle.records.proofs.PlacesLaws.{words_room, within}
 use Rattle.store.proofs.FindingLaws.{at_middle, search_below, search_above}
 use Rattle.store.proofs.finding.place_of.Goals as goal
 
-pub held_of-high-requires : goal.held_of-high-requires
-held_of-high-requires c = omega (arith, words_room _ c.requires.store)
-
 pub loop-low-init : goal.loop-low-init
 loop-low-init c =
     let e = c.held_of-high.ensures in
     (omega arith, omega (arith, within (precedes c.args.r) c.args.store.now _ refl), omega arith)
-
-pub overflow_mul-mid : goal.overflow_mul-mid
-overflow_mul-mid c = omega (arith, words_room _ c.requires.store)
-
-pub overflow_add-mid-in-loop-low : goal.overflow_add-mid-in-loop-low
-overflow_add-mid-in-loop-low c = omega (arith, words_room _ c.requires.store)
-
-pub read_from-a-requires : goal.read_from-a-requires
-read_from-a-requires c = omega (arith, words_room _ c.requires.store)
 
 pub loop-low-preserved-then-precedes : goal.loop-low-preserved-then-precedes
 loop-low-preserved-then-precedes c =

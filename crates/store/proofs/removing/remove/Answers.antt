@@ -9,9 +9,6 @@ use Rattle.store.proofs.FindingLaws.{some_found}
 use Rattle.store.proofs.RemovingLaws.{remove_found, remove_none}
 use Rattle.store.proofs.removing.remove.Goals as goal
 
-pub index_of-requires : goal.index_of-requires
-index_of-requires c = omega (arith, store_room _ c.requires)
-
 pub remove_at-requires : goal.remove_at-requires
 remove_at-requires c =
     let found = some_found _ _ _ (sym c.in-Some.is ∙ c.index_of.ensures) in

@@ -5,33 +5,6 @@ use Rattle.records.proofs.PlacesLaws.{words_room}
 use Rattle.store.proofs.RemovingLaws.{remove_at_done}
 use Rattle.store.proofs.removing.remove_at.Goals as goal
 
-pub overflow_mul-start : goal.overflow_mul-start
-overflow_mul-start c = omega (arith, words_room _ c.requires.store)
-
-pub overflow_add-start : goal.overflow_add-start
-overflow_add-start c = omega (arith, words_room _ c.requires.store)
-
-pub overflow_mul-last : goal.overflow_mul-last
-overflow_mul-last c = omega (arith, words_room _ c.requires.store)
-
-pub overflow_add-end : goal.overflow_add-end
-overflow_add-end c = omega (arith, words_room _ c.requires.store)
-
-pub overflow_add-start-2 : goal.overflow_add-start-2
-overflow_add-start-2 c = omega (arith, words_room _ c.requires.store)
-
-pub copy_within-requires-clause-in_bounds : goal.copy_within-requires-clause-in_bounds
-copy_within-requires-clause-in_bounds c = omega (arith, words_room _ c.requires.store)
-
-pub copy_within-requires-clause-dest_in_bounds : goal.copy_within-requires-clause-dest_in_bounds
-copy_within-requires-clause-dest_in_bounds c = omega (arith, words_room _ c.requires.store)
-
-pub offset_bounds-store-last : goal.offset_bounds-store-last
-offset_bounds-store-last c = omega (arith, words_room _ c.requires.store)
-
-pub slice_bounds-fill-end : goal.slice_bounds-fill-end
-slice_bounds-fill-end c = omega (arith, words_room _ c.requires.store)
-
 pub set_held-requires : goal.set_held-requires
 set_held-requires c =
     let n = c.held_of-n.result in

@@ -8,9 +8,6 @@ use Rattle.store.proofs.SteppingWordsLaws.{to_small, pass_start, pass_live, pass
 use Rattle.store.proofs.stepping.keep_live.Goals as goal
 use Rattle.store.proofs.stepping.keep_live.Goals.{then-lives_on, else-lives_on}
 
-pub held_of-i-end-requires : goal.held_of-i-end-requires
-held_of-i-end-requires c = omega (arith, store_room _ c.requires.store)
-
 pub loop-i-init : goal.loop-i-init
 loop-i-init c = pass_start _ _ _ _ _ _ c.requires.store refl c.requires.room
 

@@ -5,8 +5,5 @@ use Rattle.records.proofs.PlacesLaws.{store_room}
 use Rattle.store.proofs.WritingLaws.{now_set}
 use Rattle.store.proofs.writing.set_now.Goals as goal
 
-pub bounds-store-0 : goal.bounds-store-0
-bounds-store-0 c = omega (arith, store_room _ c.requires)
-
 pub returns : goal.returns
 returns c = ap (set c.args.store.now 0) (to_z-of_z _ _ c.ranges.t) ∙ now_set _ _ c.requires

@@ -1,8 +1,8 @@
--- `store::writing::write_record` meets its contract: seven words copied over the seven at k.
+-- `store::writing::write_record` meets its contract: seven words written one after the other.
 use Rattle.std.proofs.Common.{rules}
-use Rattle.store.proofs.WritingLaws.{record_put}
+use Rattle.store.proofs.WritingLaws.{write_words}
 use Rattle.store.proofs.writing.write_record.Goals as goal
 
 pub returns : goal.returns
 returns c =
-    record_put _ _ c.args.k c.args.r (search rules) (search rules) (search rules) (search rules) (search rules) (search rules) (search rules) c.copy_from_slice.ensures.after
+    write_words _ c.args.k c.args.r c.requires (search rules) (search rules) (search rules) (search rules) (search rules) (search rules) (search rules)
