@@ -28,7 +28,7 @@ fn stays(time: i32, t: i32) -> bool
     i64::from(time) < i64::from(t) + SILENCE
 }
 
-// How many floats stay when the clock steps to a time, in one pass without a branch.
+// How many floats stay when the clock steps to a time, in one pass without a branch: it looks at one word of each record.
 #[tactic(auto, using(records::proofs::PlacesLaws::store_room))]
 pub fn left_at(store: &[i32], time: i32) -> usize
     requires { IsStore store.now }
@@ -42,6 +42,7 @@ pub fn left_at(store: &[i32], time: i32) -> usize
 }
 
 // Whether the float of an id is held and stays when the clock steps to a time.
+#[tactic(auto, using(records::proofs::PlacesLaws::store_room))]
 pub fn has_left(store: &[i32], id: i32, time: i32) -> bool
     requires { HasAsked store.now }
     ensures { result ≡ has_id id (kept (stays_at time) (records_of store.now)) }
@@ -53,7 +54,9 @@ pub fn has_left(store: &[i32], id: i32, time: i32) -> bool
 }
 
 // One pass over the records: one that stays is written after those kept before it. Gives back how many are kept. The count and the words after them stay as
-// they are: `keep_first` sets them.
+// they are: `keep_first` sets them. The pass of a clock step in crate store also writes each record that leaves: one function for both would be told what to
+// do with those by a trait with a ghost member and two impls, since of what a closure writes nothing is known after its calls. That is no plainer.
+#[tactic(auto, using(records::proofs::PlacesLaws::store_room))]
 fn keep_staying(store: &mut [i32], time: i32) -> usize
     requires { IsStore store.old }
     ensures { KeptFirst (λ r. stays_at time r.report) store.old result store.new }
@@ -70,6 +73,7 @@ fn keep_staying(store: &mut [i32], time: i32) -> usize
 }
 
 // Takes the records of silent floats out, where there are any: `left` is how many floats stay.
+#[tactic(auto, using(records::proofs::PlacesLaws::store_room))]
 pub fn retire(store: &mut [i32], time: i32, left: usize)
     requires { RetireAsked store.old time left }
     ensures { store.new ≡ store_of (now_of store.old) (kept (stays_at time) (records_of store.old)) }

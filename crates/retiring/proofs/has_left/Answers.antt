@@ -11,14 +11,6 @@ use Rattle.store.proofs.FindingLaws.{some_found, none_found}
 use Rattle.retiring.proofs.RetiringLaws.{time_word, none_has, one_has}
 use Rattle.retiring.proofs.has_left.Goals as goal
 
-pub index_of-requires : goal.index_of-requires
-index_of-requires c = omega (arith, store_room _ c.requires.store)
-
-pub bounds-store-i : goal.bounds-store-i
-bounds-store-i c =
-    let found = some_found _ _ _ (sym c.in-Some.is ∙ c.index_of.ensures) in
-    omega (arith, store_room _ c.requires.store, found.1)
-
 pub returns-in-Some : goal.returns-in-Some
 returns-in-Some c =
     let s = c.args.store.now in

@@ -8,9 +8,6 @@ use Rattle.store.proofs.WritingKeptLaws.{keeping_start, keeping_stays, keeping_g
 use Rattle.retiring.proofs.keep_staying.Goals as goal
 use Rattle.retiring.proofs.keep_staying.Goals.{then-stays, else-stays}
 
-pub held_of-i-end-requires : goal.held_of-i-end-requires
-held_of-i-end-requires c = omega (arith, store_room _ c.requires)
-
 pub loop-i-init : goal.loop-i-init
 loop-i-init c = keeping_start _ _ _ c.requires refl
 

@@ -9,23 +9,11 @@ use Rattle.store.proofs.WritingKeptLaws.{kept_alone}
 use Rattle.retiring.proofs.RetiringLaws.{none_goes}
 use Rattle.retiring.proofs.retire.Goals as goal
 
-pub held_of-n-requires : goal.held_of-n-requires
-held_of-n-requires c = omega (arith, store_room _ c.requires.store)
-
 pub returns-then-left-n : goal.returns-then-left-n
 returns-then-left-n c =
     let s = c.args.store.now in
     let all = sym c.requires.left_is ∙ c.if-left-n.true ∙ c.held_of-n.ensures ∙ sym (held_records s) in
     c.requires.store.words ∙ ap (store_of (now_of s)) (sym (none_goes (stays_at c.args.time) (records_of s) all))
-
-pub keep_first-requires : goal.keep_first-requires
-keep_first-requires c =
-    let room = store_room _ c.requires.store in
-    record {
-      within = omega (arith, c.keep_staying-k.ensures.within);
-      few = omega (arith, room);
-      long = omega (arith, room, c.keep_staying-k.auto.store);
-    }
 
 pub returns : goal.returns
 returns c =
