@@ -1,23 +1,29 @@
 -- The laws of finding a record: what a walk over the records of a store finds, and a search among sorted ones.
 -- Assumes nothing.
 use mathlib.Core.Path.{◌≡◌, refl, sym, ap, ◌∙◌}
-use mathlib.Core.Bool.{Bool, true, false, cond}
+use mathlib.Core.Bool.{Bool, true, false, cond, not}
 use mathlib.Core.List.{List, [], ◌∷◌, Memᴰ}
 use Prim.Native.Nat.{ℕ, zero, suc, ◌+◌, ◌-◌, ◌*◌, ◌/◌, ◌≤◌, ◌<◌}
 use native.Mathlib.Omega.{arith}
 use lib.IntN.{ℤ}
-use lib.ListN.{length, get_or, drop}
-use lib.Seq.{drop-nil, drop-drop}
+use mathlib.Core.Logic.{dite}
+use native.Mathlib.Decide.{dec_lt}
+use lib.ListN.{length, get_or, take, drop, length-drop}
+use lib.Seq.{drop-nil, drop-drop, drop-cons, length-take-le}
+use Rattle.std.specs.Simd.{first_chunks}
+use Rattle.std.specs.List.Sorted.{IsPartitionedBy, IsPartitionPoint}
 use borrow.Author.Tests.{ltb-true, ltb-false, lt-ltb, le-ltb}
 use Rattle.std.specs.Prelude.{Some, None, nat_lt}
 use Rattle.ints.proofs.Parts.{true_false}
 use Rattle.records.specs.Records.{record_words, record_from, held_of, read_records, records_of}
 use Rattle.records.specs.Order.{precedes, is_sorted}
-use Rattle.records.specs.Places.{first_of}
+use Rattle.records.specs.Places.{HasWords, first_of}
 use Rattle.store.specs.Finding.{place_of, index_of, found_at}
+use Rattle.store.specs.Sorting.{all_of}
+use Rattle.store.proofs.SortingListsLaws.{all_count, chunk_listed}
 use Rattle.records.specs.declared.Record.{Record}
-use Rattle.records.proofs.RecordsLaws.{held_records}
-use Rattle.records.proofs.PlacesLaws.{record_at, drop-record}
+use Rattle.records.proofs.RecordsLaws.{held_records, read_length}
+use Rattle.records.proofs.PlacesLaws.{record_at, words_room, read_front, first_within}
 use Rattle.records.proofs.OrderLaws.{before_all, sorted_rest}
 
 -- ---- a walk over the records, one by one
@@ -71,8 +77,8 @@ IsAt m a rs = (more : List Record) × (drop m rs ≡ a ∷ more)
 pub first_same : (a b : Record) (rs more : List Record) → a ∷ rs ≡ b ∷ more → a ≡ b
 first_same a b rs more e = ap (λ (l : List Record). get_or l 0 a) e
 
-pub at_middle : (s : List ℤ) (m : ℕ) (a : Record) → m < held_of s → a ≡ record_from s (record_words * m + record_words) → IsAt m a (records_of s)
-at_middle s m a h e = (drop (m + 1) (records_of s), drop-record s m h ∙ ap (λ (x : Record). x ∷ drop (m + 1) (records_of s)) (sym e))
+at_index : (m : ℕ) (d : Record) (rs : List Record) → m < length rs → IsAt m (get_or rs m d) rs
+at_index m d rs h = (drop (suc m) rs, drop-cons rs m d h)
 
 none_at : (m : ℕ) (a : Record) → IsAt m a [] → ⊥
 none_at m a at = let k = ap length (sym (drop-nil {A = Record} m) ∙ at.1) in omega arith
@@ -105,17 +111,76 @@ module _ (r : Record) where
       go true e k = absurd (true_false (sym (before_all r b rs e o a (Memᴰ.tail (at_member m a rs at))) ∙ h))
       go false e k = omega arith
 
--- one turn of it, at the record in the middle
-module _ (s : List ℤ) (r a : Record) (low high : ℕ) (o : is_sorted (records_of s) ≡ true) (x : Bool) (e : x ≡ precedes r a) where
-  abbrev middle : ℕ
-  middle = low + (high - low) / 2
+not_true : (b : Bool) → not b ≡ true → b ≡ false
+not_true true e = sym e
+not_true false e = refl
 
-  module _ (at : IsAt middle a (records_of s)) where
-    pub search_below : x ≡ true → place_of r (records_of s) ≤ middle
-    search_below t = place_below r middle a (records_of s) at (sym e ∙ t)
+not_false : (b : Bool) → not b ≡ false → b ≡ true
+not_false true e = refl
+not_false false e = sym e
 
-    pub search_above : x ≡ false → middle + 1 ≤ place_of r (records_of s)
-    search_above t = let k = place_above r middle a (records_of s) at o (sym e ∙ t) in omega arith
+-- the records of a store, as a part of its words
+pub part_records : (s : List ℤ) (n : ℕ) → HasWords s → n ≡ held_of s → all_of (take (record_words * n + record_words - record_words) (drop record_words s)) ≡ records_of s
+unfolding records_of
+part_records s n q en =
+    let room = words_room s q in
+    let l = room.long in
+    let f = room.few in
+    let e : record_words * n + record_words - record_words ≡ record_words * n = omega arith in
+    let behind : record_words * n ≤ length (drop record_words s) = simp length-drop (omega arith) in
+    ap (λ (j : ℕ). all_of (take j (drop record_words s))) e
+    ∙ all_count n (take (record_words * n) (drop record_words s)) (length-take-le (record_words * n) (drop record_words s) behind)
+    ∙ read_front n (drop record_words s) behind
+    ∙ ap (λ (j : ℕ). read_records j (drop record_words s)) en
+
+-- whether a record in seven words is one that r comes behind
+abbrev pub is_behind : Record → List ℤ → Bool
+is_behind r words = not (precedes r (record_from words 0))
+
+module _ (r : Record) (w : List ℤ) (chunks : List (List ℤ)) (e : chunks ≡ first_chunks record_words (length w / record_words) w) (l : length chunks ≡ length w / record_words) (o : is_sorted (all_of w) ≡ true) where
+  abbrev none : Record
+  none = record_from [] 0
+
+  abbrev here : ℕ → Record
+  here j = get_or (all_of w) j none
+
+  long : length (all_of w) ≡ length chunks
+  long = read_length (length w / record_words) w ∙ sym l
+
+  tested : (j : ℕ) (d : List ℤ) → j < length chunks → is_behind r (get_or chunks j d) ≡ not (precedes r (here j))
+  tested j d h =
+      ap (λ (c : List (List ℤ)). is_behind r (get_or c j d)) e
+      ∙ ap (λ (a : Record). not (precedes r a)) (chunk_listed (length w / record_words) j w d none (omega arith))
+
+  not_behind : (j : ℕ) → j < length chunks → precedes r (here j) ≡ true → place_of r (all_of w) ≤ j
+  not_behind j h t = let k = long in place_below r j (here j) (all_of w) (at_index j none (all_of w) (omega arith)) t
+
+  is_after : (j : ℕ) → j < length chunks → precedes r (here j) ≡ false → j < place_of r (all_of w)
+  is_after j h t = let k = long in place_above r j (here j) (all_of w) (at_index j none (all_of w) (omega arith)) o t
+
+  -- those that r comes behind stand before the others
+  pub parted : IsPartitionedBy (is_behind r) chunks
+  parted i j d h k t = go (precedes r (here i)) refl
+    where
+      behind : j < place_of r (all_of w)
+      behind = is_after j k (not_true (precedes r (here j)) (sym (tested j d k) ∙ t))
+
+      go : (b : Bool) → precedes r (here i) ≡ b → is_behind r (get_or chunks i d) ≡ true
+      go true f = absurd (omega (arith, behind, not_behind i (omega arith) f))
+      go false f = tested i d (omega arith) ∙ ap not f
+
+  -- so the place is where they end
+  pub place_found : (i : ℕ) → i ≤ length chunks → IsPartitionPoint (λ c. is_behind r c ≡ true) (λ c. is_behind r c ≡ false) chunks i → i ≡ place_of r (all_of w)
+  place_found i h p = omega (arith, low i refl, high)
+    where
+      low : (j : ℕ) → j ≡ i → i ≤ place_of r (all_of w)
+      low zero f = omega arith
+      low (suc j) f = omega (arith, is_after j (omega arith) (not_true (precedes r (here j)) (sym (tested j [] (omega arith)) ∙ p.0 j [] (omega arith) (omega arith))))
+
+      high : place_of r (all_of w) ≤ i
+      high = dite (dec_lt i (length chunks))
+          (λ k. not_behind i k (not_false (precedes r (here i)) (sym (tested i [] k) ∙ p.1 i [] (omega arith) k)))
+          (λ k. omega (arith, long, first_within (precedes r) (all_of w)))
 
 -- ---- the number found, if there is one
 

@@ -28,7 +28,8 @@ pub fn widen_all(table: &mut [i16], dead: &[i32])
     requires { WidenAllAsked table.old dead.now }
     ensures { table.new ≡ widened_by_all table.old (all_of dead.now) }
 {
-    for j in 0..dead.len() / RECORD_WORDS {
-        widen(table, Record::read_from(dead, RECORD_WORDS * j));
+    let (records, _) = dead.as_chunks::<RECORD_WORDS>();
+    for words in records {
+        widen(table, Record::read_from(words, 0));
     }
 }

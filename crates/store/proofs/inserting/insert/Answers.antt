@@ -1,6 +1,6 @@
 -- `store::inserting::insert` meets its contract: the records from the place on move up by one record, and the new one is written there.
 use Rattle.std.proofs.Common.{arith}
-use Rattle.records.proofs.PlacesLaws.{store_room, has_words, within}
+use Rattle.records.proofs.PlacesLaws.{store_room, has_words}
 use Rattle.store.proofs.InsertingLaws.{insert_done}
 use Rattle.store.proofs.inserting.insert.Goals as goal
 

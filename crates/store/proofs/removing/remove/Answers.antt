@@ -3,7 +3,7 @@ use Rattle.std.proofs.Common.{arith, sym, ap, ◌∙◌}
 use Rattle.std.proofs.lemmas.Int.{to_z-of_z}
 use Rattle.records.specs.Records.{records_of}
 use Rattle.records.proofs.RecordsLaws.{held_records}
-use Rattle.records.proofs.PlacesLaws.{store_room, has_words}
+use Rattle.records.proofs.PlacesLaws.{has_words}
 use Rattle.store.specs.Finding.{found_at}
 use Rattle.store.proofs.FindingLaws.{some_found}
 use Rattle.store.proofs.RemovingLaws.{remove_found, remove_none}

@@ -1,7 +1,6 @@
 -- `store::stepping::keep_live` meets its contract: a record stays behind those kept before it, or is written to the other words, placed anew.
 use Rattle.std.proofs.Common.{ℕ, refl, ap, sym, not, ◌∙◌, arith}
 use Rattle.store.specs.Stepping.{placed_in}
-use Rattle.records.proofs.PlacesLaws.{store_room}
 use Rattle.records.proofs.SoundnessRangeLaws.{ranged_parts}
 use Rattle.store.proofs.WritingKeptLaws.{now_ranged}
 use Rattle.store.proofs.SteppingWordsLaws.{to_small, pass_start, pass_live, pass_dead, pass_end}

@@ -1,6 +1,4 @@
 -- `store::stepping::take_dead` meets its contract: after the pass, the records that it kept are kept alone.
-use Rattle.std.proofs.Common.{arith}
-use Rattle.records.proofs.PlacesLaws.{store_room}
 use Rattle.store.proofs.WritingKeptLaws.{kept_alone}
 use Rattle.store.proofs.stepping.take_dead.Goals as goal
 

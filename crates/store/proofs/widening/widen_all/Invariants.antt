@@ -4,5 +4,5 @@ use Rattle.records.specs.Records.{record_words}
 use Rattle.store.proofs.WideningLaws.{Widen}
 use Rattle.store.proofs.widening.widen_all.Given as goal
 
-abbrev pub invariant-loop-j : goal.invariant-loop-j
-invariant-loop-j l = Widen l.fn.table l.dead (length l.dead / record_words) l.table l.j
+abbrev pub invariant-loop-words : goal.invariant-loop-words
+invariant-loop-words l = Widen l.fn.table l.dead (length l.dead / record_words) l.table l.words-index

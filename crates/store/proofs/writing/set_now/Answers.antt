@@ -1,7 +1,6 @@
 -- `store::writing::set_now` meets its contract: the time is the first word.
-use Rattle.std.proofs.Common.{set, ap, ◌∙◌, arith}
+use Rattle.std.proofs.Common.{set, ap, ◌∙◌}
 use Rattle.std.proofs.lemmas.Int.{to_z-of_z}
-use Rattle.records.proofs.PlacesLaws.{store_room}
 use Rattle.store.proofs.WritingLaws.{now_set}
 use Rattle.store.proofs.writing.set_now.Goals as goal
 
