@@ -1,71 +1,94 @@
--- The laws of finding a record: what a walk over the records of a store finds, and a search among sorted ones.
+-- The laws of finding a record in a store, whose records are read as chunks of seven words: the first of an id, and the place among sorted ones.
 -- Assumes nothing.
 use mathlib.Core.Path.{◌≡◌, refl, sym, ap, ◌∙◌}
 use mathlib.Core.Bool.{Bool, true, false, cond, not}
 use mathlib.Core.List.{List, [], ◌∷◌, Memᴰ}
-use Prim.Native.Nat.{ℕ, zero, suc, ◌+◌, ◌-◌, ◌*◌, ◌/◌, ◌≤◌, ◌<◌}
+use Prim.Native.Nat.{ℕ, zero, suc, ◌+◌, ◌-◌, ◌*◌, ◌/◌, ◌≤◌, ◌<◌, ◌^◌}
 use native.Mathlib.Omega.{arith}
 use lib.IntN.{ℤ}
 use mathlib.Core.Logic.{dite}
 use native.Mathlib.Decide.{dec_lt}
 use lib.ListN.{length, get_or, take, drop, length-drop}
-use lib.Seq.{drop-nil, drop-drop, drop-cons, length-take-le}
+use lib.Seq.{drop-nil, drop-cons, length-take-le}
 use Rattle.std.specs.Simd.{first_chunks}
 use Rattle.std.specs.List.Sorted.{IsPartitionedBy, IsPartitionPoint}
-use borrow.Author.Tests.{ltb-true, ltb-false, lt-ltb, le-ltb}
+use lib.Dec.{eqb}
+use lib.Signed.{mag}
+use mir.Syntax.{w32}
+use mir.Val.{hbits, to_z, of_z}
+use borrow.Author.Tests.{ltb-true, ltb-false, eqb-true}
+use Rattle.std.proofs.Common.{eq-eqb}
+use Rattle.std.specs.List.{position, position_or_len}
+use Rattle.ints.specs.Whole.{eq_z}
+use Rattle.ints.proofs.Truth.{same_truth}
+use Rattle.ints.proofs.Same.{is_same, same_is}
+use Rattle.ints.proofs.Machine.{held}
 use Rattle.std.specs.Prelude.{Some, None, nat_lt}
 use Rattle.ints.proofs.Parts.{true_false}
 use Rattle.records.specs.Records.{record_words, record_from, held_of, read_records, records_of}
 use Rattle.records.specs.Order.{precedes, is_sorted}
-use Rattle.records.specs.Places.{HasWords, first_of}
-use Rattle.store.specs.Finding.{place_of, index_of, found_at}
+use Rattle.records.specs.Places.{first_of}
+use Rattle.store.specs.Finding.{place_of, has_that, index_of, found_at}
 use Rattle.store.specs.Sorting.{all_of}
-use Rattle.store.proofs.SortingListsLaws.{all_count, chunk_listed}
+use Rattle.store.proofs.SortingListsLaws.{all_count, first_chunk, chunk_listed}
 use Rattle.records.specs.declared.Record.{Record}
-use Rattle.records.proofs.RecordsLaws.{held_records, read_length}
-use Rattle.records.proofs.PlacesLaws.{record_at, words_room, read_front, first_within}
+use Rattle.records.proofs.RecordsLaws.{read_length}
+use Rattle.records.proofs.PlacesLaws.{read_front, first_within}
 use Rattle.records.proofs.OrderLaws.{before_all, sorted_rest}
 
--- ---- a walk over the records, one by one
+-- ---- the records of a store, as a part of its words
 
--- the records that are left at record i
-pub left_at :
-    (n i : ℕ) (s : List ℤ)
-    → i < n
-    → read_records (n - i) (drop (record_words * i + record_words) s) ≡ record_from s (record_words * i + record_words) ∷ read_records (n - (i + 1)) (drop (record_words * (i + 1) + record_words) s)
-unfolding read_records
-left_at n i s h =
-    let e : n - i ≡ suc (n - (i + 1)) = omega arith in
-    let k : record_words * i + record_words + record_words ≡ record_words * (i + 1) + record_words = omega arith in
-    rw (e, record_at, drop-drop, k)
-
-pub walk_start : (f : Record → Bool) (s : List ℤ) (n : ℕ) → n ≡ held_of s → first_of f (records_of s) ≡ 0 + first_of f (read_records (n - 0) (drop (record_words * 0 + record_words) s))
+pub part_records :
+    (s : List ℤ) (n : ℕ)
+    → record_words * n + record_words ≤ length s
+    → n ≡ held_of s
+    → all_of (take (record_words * n + record_words - record_words) (drop record_words s)) ≡ records_of s
 unfolding records_of
-walk_start f s n h = let e : n - 0 ≡ held_of s = omega arith in rw e (omega arith)
+part_records s n h en =
+    let e : record_words * n + record_words - record_words ≡ record_words * n = omega arith in
+    let behind : record_words * n ≤ length (drop record_words s) = simp length-drop (omega arith) in
+    ap (λ (j : ℕ). all_of (take j (drop record_words s))) e
+    ∙ all_count n (take (record_words * n) (drop record_words s)) (length-take-le (record_words * n) (drop record_words s) behind)
+    ∙ read_front n (drop record_words s) behind
+    ∙ ap (λ (j : ℕ). read_records j (drop record_words s)) en
 
-module _ (f : Record → Bool) (s : List ℤ) (n i : ℕ) (e : first_of f (records_of s) ≡ i + first_of f (read_records (n - i) (drop (record_words * i + record_words) s))) where
-  pub walk_here : i < n → f (record_from s (record_words * i + record_words)) ≡ true → i ≡ first_of f (records_of s)
-  unfolding first_of
-  walk_here h t =
-      let x : first_of f (read_records (n - i) (drop (record_words * i + record_words) s)) ≡ 0 = rw (left_at n i s h, t) in
-      omega arith
+-- ---- the first record of an id
 
-  pub walk_more :
-      i < n
-      → f (record_from s (record_words * i + record_words)) ≡ false
-      → first_of f (records_of s) ≡ i + 1 + first_of f (read_records (n - (i + 1)) (drop (record_words * (i + 1) + record_words) s))
-  unfolding first_of
-  walk_more h t =
-      let x : first_of f (read_records (n - i) (drop (record_words * i + record_words) s)) ≡ suc (first_of f (read_records (n - (i + 1)) (drop (record_words * (i + 1) + record_words) s))) =
-      rw (left_at n i s h, t) in
-      omega arith
+-- two numbers are the same where their bits are
+pub same_bits : (a b : ℤ) → mag a < 2 ^ hbits w32 → mag b < 2 ^ hbits w32 → eqb (of_z w32 a) (of_z w32 b) ≡ eq_z a b
+same_bits a b ha hb =
+    same_truth _ _
+    (λ t. is_same a b (sym (held w32 a ha) ∙ ap (to_z w32) (eqb-true (of_z w32 a) (of_z w32 b) t) ∙ held w32 b hb))
+    (λ t. eq-eqb (of_z w32 a) (of_z w32 b) (ap (of_z w32) (same_is a b t)))
 
-  pub walk_end : n ≤ i → i ≡ first_of f (records_of s)
+module _ (id : ℤ) where
+  -- whether the record in seven words has it
+  abbrev pub is_of : List ℤ → Bool
+  is_of words = has_that id (record_from words 0)
+
+  chunk_count : (k : ℕ) (w : List ℤ) → length (first_chunks record_words k w) ≡ k
+  chunk_count zero w = refl
+  chunk_count (suc k) w = ap suc (chunk_count k (drop record_words w))
+
+  chunk_place : (k : ℕ) (w : List ℤ) → position_or_len is_of (first_chunks record_words k w) ≡ first_of (has_that id) (read_records k w)
   unfolding first_of read_records
-  walk_end h =
-      let k : n - i ≡ 0 = omega arith in
-      let x : first_of f (read_records (n - i) (drop (record_words * i + record_words) s)) ≡ 0 = rw k in
-      omega arith
+  chunk_place zero w = refl
+  chunk_place (suc k) w =
+      ap (λ (r : Record). cond (not (has_that id r)) (1 + position_or_len is_of (first_chunks record_words k (drop record_words w))) 0) (first_chunk w)
+      ∙ go (has_that id (record_from w 0)) (chunk_place k (drop record_words w))
+    where
+      rest : ℕ
+      rest = first_of (has_that id) (read_records k (drop record_words w))
+
+      go : (b : Bool) → position_or_len is_of (first_chunks record_words k (drop record_words w)) ≡ rest → cond (not b) (1 + position_or_len is_of (first_chunks record_words k (drop record_words w))) 0 ≡ cond b 0 (suc rest)
+      go true e = refl
+      go false e = omega (arith, e)
+
+  pub index_found : (w : List ℤ) (chunks : List (List ℤ)) → chunks ≡ first_chunks record_words (length w / record_words) w → position is_of chunks ≡ found_at id (all_of w)
+  index_found w chunks e =
+      let k = length w / record_words in
+      let count = chunk_count k w ∙ sym (read_length k w) in
+      ap (position is_of) e ∙ (λ i. cond (nat_lt (chunk_place k w i) (count i)) (Some (chunk_place k w i)) None)
 
 -- ---- a search among sorted records
 
@@ -119,20 +142,6 @@ not_false : (b : Bool) → not b ≡ false → b ≡ true
 not_false true e = refl
 not_false false e = sym e
 
--- the records of a store, as a part of its words
-pub part_records : (s : List ℤ) (n : ℕ) → HasWords s → n ≡ held_of s → all_of (take (record_words * n + record_words - record_words) (drop record_words s)) ≡ records_of s
-unfolding records_of
-part_records s n q en =
-    let room = words_room s q in
-    let l = room.long in
-    let f = room.few in
-    let e : record_words * n + record_words - record_words ≡ record_words * n = omega arith in
-    let behind : record_words * n ≤ length (drop record_words s) = simp length-drop (omega arith) in
-    ap (λ (j : ℕ). all_of (take j (drop record_words s))) e
-    ∙ all_count n (take (record_words * n) (drop record_words s)) (length-take-le (record_words * n) (drop record_words s) behind)
-    ∙ read_front n (drop record_words s) behind
-    ∙ ap (λ (j : ℕ). read_records j (drop record_words s)) en
-
 -- whether a record in seven words is one that r comes behind
 abbrev pub is_behind : Record → List ℤ → Bool
 is_behind r words = not (precedes r (record_from words 0))
@@ -183,16 +192,6 @@ module _ (r : Record) (w : List ℤ) (chunks : List (List ℤ)) (e : chunks ≡ 
           (λ k. omega (arith, long, first_within (precedes r) (all_of w)))
 
 -- ---- the number found, if there is one
-
-pub found_here : (id : ℤ) (s : List ℤ) (i : ℕ) → i < held_of s → i ≡ index_of id (records_of s) → Some i ≡ found_at id (records_of s)
-found_here id s i h e =
-    let within : index_of id (records_of s) < length (records_of s) = omega (arith, held_records s) in
-    ap Some e ∙ sym (rw (lt-ltb (index_of id (records_of s)) (length (records_of s)) within))
-
-pub found_none : (id : ℤ) (s : List ℤ) (i : ℕ) → held_of s ≤ i → i ≡ index_of id (records_of s) → None ≡ found_at id (records_of s)
-found_none id s i h e =
-    let none : length (records_of s) ≤ index_of id (records_of s) = omega (arith, held_records s) in
-    sym (rw (le-ltb (index_of id (records_of s)) (length (records_of s)) none))
 
 -- what a caller learns
 pub some_found : (id : ℤ) (rs : List Record) (i : ℕ) → Some i ≡ found_at id rs → (i ≡ index_of id rs) × (i < length rs)

@@ -1,11 +1,11 @@
 -- `retiring::has_left` meets its contract: the one record that has the id is looked for, and its float judged.
-use Rattle.std.proofs.Common.{◌≡◌, ◌<◌, Some, None, ℕ, ℤ, Bool, not, pos, length, get_or, drop, arith, rules, sym, ap, ◌∙◌, ◌+◌, ◌*◌, w32}
+use Rattle.std.proofs.Common.{ℕ, ℤ, Bool, not, pos, get_or, drop, arith, rules, sym, ap, ◌∙◌, ◌+◌, ◌*◌, w32}
 use Rattle.std.proofs.lemmas.Int.{to_z-of_z}
 use Rattle.ints.proofs.Machine.{tested₂}
 use Rattle.grid.specs.Reports.{is_silent, stays_at}
 use Rattle.records.specs.Records.{record_from, records_of}
 use Rattle.records.proofs.RecordsLaws.{held_records}
-use Rattle.records.proofs.PlacesLaws.{store_room, drop-record}
+use Rattle.records.proofs.PlacesLaws.{drop-record}
 use Rattle.store.specs.Finding.{found_at}
 use Rattle.store.proofs.FindingLaws.{some_found, none_found}
 use Rattle.retiring.proofs.RetiringLaws.{time_word, none_has, one_has}

@@ -3,7 +3,6 @@ use Rattle.std.proofs.Common.{ℤ, Bool, not, arith, refl, rules, sym, ◌∙◌
 use Rattle.std.proofs.lemmas.Int.{to_z-of_z}
 use Rattle.ints.proofs.Machine.{back, tested₁}
 use Rattle.grid.specs.Reports.{is_silent}
-use Rattle.records.proofs.PlacesLaws.{store_room}
 use Rattle.store.proofs.WritingKeptLaws.{keeping_start, keeping_stays, keeping_goes, keeping_end}
 use Rattle.retiring.proofs.keep_staying.Goals as goal
 use Rattle.retiring.proofs.keep_staying.Goals.{then-stays, else-stays}

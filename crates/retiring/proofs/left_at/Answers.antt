@@ -3,7 +3,6 @@ use Rattle.std.proofs.Common.{ℤ, Bool, not, get_or, pos, ◌+◌, ◌*◌, ari
 use Rattle.std.proofs.lemmas.Int.{to_z-of_z}
 use Rattle.ints.proofs.Machine.{back, tested₁}
 use Rattle.grid.specs.Reports.{is_silent}
-use Rattle.records.proofs.PlacesLaws.{store_room}
 use Rattle.retiring.proofs.RetiringLaws.{byte_is, time_word, counting_start, counting_next, counting_end}
 use Rattle.retiring.proofs.left_at.Goals as goal
 

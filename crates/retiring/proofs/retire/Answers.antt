@@ -1,10 +1,9 @@
 -- `retiring::retire` meets its contract: nothing to do where all stay; else those that stay are kept alone.
-use Rattle.std.proofs.Common.{arith, sym, ap, ◌∙◌}
+use Rattle.std.proofs.Common.{sym, ap, ◌∙◌}
 use Rattle.std.proofs.lemmas.Int.{to_z-of_z}
 use Rattle.grid.specs.Reports.{stays_at}
 use Rattle.records.specs.Records.{now_of, records_of, store_of}
 use Rattle.records.proofs.RecordsLaws.{held_records}
-use Rattle.records.proofs.PlacesLaws.{store_room}
 use Rattle.store.proofs.WritingKeptLaws.{kept_alone}
 use Rattle.retiring.proofs.RetiringLaws.{none_goes}
 use Rattle.retiring.proofs.retire.Goals as goal
