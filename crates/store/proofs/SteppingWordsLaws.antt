@@ -1,6 +1,6 @@
 -- The laws of the words when floats of dead phases are placed anew: those taken out in one pass, and the two halves of it.
 -- Assumes nothing.
-use mathlib.Core.Path.{◌≡◌, refl, sym, ap, ap₂, ◌∙◌}
+use mathlib.Core.Path.{◌≡◌, refl, sym, ap, ◌∙◌}
 use mathlib.Core.Bool.{Bool, true, false}
 use mathlib.Core.List.{List, [], ◌∷◌, ◌++◌, map, append_assoc}
 use Prim.Native.Nat.{ℕ, ◌+◌, ◌-◌, ◌*◌, ◌≤◌, ◌<◌}
@@ -12,10 +12,9 @@ use Rattle.ints.specs.Lists.{passing, every}
 use Rattle.ints.proofs.Truth.{and_true, and_left, and_right}
 use Rattle.ints.proofs.Lists.{map-append}
 use Rattle.grid.specs.Units.{capacity}
-use Rattle.rows.specs.Phases.{phase_of, is_live, last_phase}
+use Rattle.rows.specs.Phases.{phase_of, last_phase}
 use Rattle.rows.specs.Table.{table_words}
 use Rattle.records.specs.Records.{record_words, record_from, now_of, held_of, read_records, records_of, words_of, words_of_all, store_of, float_words}
-use Rattle.records.specs.Order.{phase_of_key}
 use Rattle.records.specs.Soundness.{is_ranged, all_ranged, IsStore}
 use Rattle.store.specs.Inserting.{inserted_all}
 use Rattle.store.specs.Sorting.{all_of}
@@ -40,9 +39,6 @@ from_small step i = omega (arith, i.from_is, last_phase_lem step.now i.is_now)
 
 pub to_small : (step : Step) → IsStep step → step.to ≤ last_phase
 to_small step i = omega (arith, i.to_is, last_phase_lem step.time i.is_time_lem)
-
-pub lives_on_is : (step : Step) → IsStep step → (r : Record) → is_live step.to (phase_of_key step.from r.key) ≡ lives_on step.now step.time r
-lives_on_is step i r = ap₂ (λ (p c : ℕ). is_live p (phase_of_key c r.key)) i.to_is i.from_is
 
 -- a store with some records
 module _ (now : ℤ) (rs : List Record) (s : List ℤ) (e : s ≡ store_of now rs) where

@@ -219,11 +219,6 @@ pub record Widen (table₀ dead : List ℤ) (m : ℕ) (table : List ℤ) (j : �
   pub table_is : widened_by_all table₀ (read_records m dead) ≡ widened_by_all table (read_records (m - j) (drop (record_words * j) dead))
   pub ranged : all_ranged (read_records (m - j) (drop (record_words * j) dead)) ≡ true
 
-pub widen_start : (table dead : List ℤ) (m : ℕ) → length table ≡ table_words → all_ranged (read_records m dead) ≡ true → Widen table dead m table 0
-widen_start table dead m l r =
-    let e : m - 0 ≡ m = omega arith in
-    record { table_long = l; table_is = rw e; ranged = rw e r }
-
 module _ (table₀ dead : List ℤ) (m : ℕ) (table : List ℤ) (j : ℕ) (p : Widen table₀ dead m table j) (h : j < m) (r : Record) (er : r ≡ record_from dead (record_words * j)) where
   rest_here : read_records (m - j) (drop (record_words * j) dead) ≡ r ∷ read_records (m - (j + 1)) (drop (record_words * (j + 1)) dead)
   rest_here = rest_at m j dead h ∙ ap (λ (a : Record). a ∷ read_records (m - (j + 1)) (drop (record_words * (j + 1)) dead)) (sym er)

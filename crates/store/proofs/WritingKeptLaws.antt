@@ -18,7 +18,7 @@ use Rattle.records.specs.Soundness.{is_ranged, all_ranged, IsStore}
 use Rattle.records.specs.declared.Record.{Record}
 use Rattle.records.proofs.RecordsLaws.{words_length, held_records}
 use Rattle.records.proofs.PlacesLaws.{record_at, store_room, drop-record}
-use Rattle.store.specs.Needs.{KeepAsked, KeptFirst, first_kept}
+use Rattle.store.specs.Needs.{KeptFirst, first_kept}
 use Rattle.store.proofs.WritingLaws.{words_append}
 
 -- ---- the pass
@@ -192,24 +192,6 @@ module _ (s₀ : List ℤ) (staying : Record → Bool) (n : ℕ) (s : List ℤ) 
       }
 
 -- ---- the first records kept alone
-
--- as the code does it: a part of the words zeroed, then the count set
-pub first_kept_lem : (s ys s' : List ℤ) (k n : ℕ) → KeepAsked s k n
-    → let a = record_words * k + record_words in
-    let e = record_words * n + record_words in
-    ys ≡ replicate (length (take (e - a) (drop a s))) (pos 0)
-    → s' ≡ set (take a s ++ (ys ++ drop (e - a) (drop a s))) 1 (pos k)
-    → s' ≡ first_kept k n s
-first_kept_lem s ys s' k n q ey es =
-    let within = q.within in
-    let long = q.long in
-    let a = record_words * k + record_words in
-    let e = record_words * n + record_words in
-    let zeros : ℕ → List ℤ = λ j. replicate j (pos 0) in
-    let ea : a + (e - a) ≡ e = omega arith in
-    let lg : length (take (e - a) (drop a s)) ≡ e - a = length-take-le (e - a) (drop a s) (simp length-drop (omega arith)) in
-    let rest : drop (e - a) (drop a s) ≡ drop e s = drop-drop (e - a) a s ∙ ap (λ (j : ℕ). drop j s) ea in
-    es ∙ (λ i. set (take a s ++ ((ey ∙ ap zeros lg) i ++ rest i)) 1 (pos k))
 
 -- the records that a pass kept, and no other
 pub kept_alone : (s₀ s s' : List ℤ) (staying : Record → Bool) (n k : ℕ) → IsStore s₀ → n ≡ held_of s₀ → KeptFirst staying s₀ k s

@@ -69,7 +69,7 @@ pub fn place_in(p: usize, r: Report) -> Record
 }
 
 // One pass over the records: one that stays is written after those kept before it, any other to `dead`, placed in the phase of the time. Gives back how
-// many are kept. The count and the words after the kept records stay as they are: `take_dead` sets them.
+// many are kept. The count and the words after the kept records stay as they are: `take_dead` sets them. (The pass of crate retiring is apart: see there.)
 #[tactic(auto, using(records::proofs::PlacesLaws::store_room))]
 fn keep_live(store: &mut [i32], step: Step, dead: &mut [i32]) -> usize
     requires { TakeAsked store.old step dead.old }
