@@ -70,19 +70,22 @@ module _ (id : ℤ) where
   chunk_count zero w = refl
   chunk_count (suc k) w = ap suc (chunk_count k (drop record_words w))
 
+  -- one chunk more
+  step : Bool → ℕ → ℕ
+  step b n = cond (not b) (1 + n) 0
+
+  step_is : (b : Bool) (n : ℕ) → step b n ≡ cond b 0 (suc n)
+  unfolding step
+  step_is true n = refl
+  step_is false n = omega arith
+
   chunk_place : (k : ℕ) (w : List ℤ) → position_or_len is_of (first_chunks record_words k w) ≡ first_of (has_that id) (read_records k w)
-  unfolding first_of read_records
+  unfolding first_of read_records step
   chunk_place zero w = refl
   chunk_place (suc k) w =
-      ap (λ (r : Record). cond (not (has_that id r)) (1 + position_or_len is_of (first_chunks record_words k (drop record_words w))) 0) (first_chunk w)
-      ∙ go (has_that id (record_from w 0)) (chunk_place k (drop record_words w))
-    where
-      rest : ℕ
-      rest = first_of (has_that id) (read_records k (drop record_words w))
-
-      go : (b : Bool) → position_or_len is_of (first_chunks record_words k (drop record_words w)) ≡ rest → cond (not b) (1 + position_or_len is_of (first_chunks record_words k (drop record_words w))) 0 ≡ cond b 0 (suc rest)
-      go true e = refl
-      go false e = omega (arith, e)
+      let here = has_that id (record_from w 0) in
+      (λ i. step (has_that id (first_chunk w i)) (chunk_place k (drop record_words w) i))
+      ∙ step_is here (first_of (has_that id) (read_records k (drop record_words w)))
 
   pub index_found : (w : List ℤ) (chunks : List (List ℤ)) → chunks ≡ first_chunks record_words (length w / record_words) w → position is_of chunks ≡ found_at id (all_of w)
   index_found w chunks e =
@@ -146,7 +149,9 @@ not_false false e = sym e
 abbrev pub is_behind : Record → List ℤ → Bool
 is_behind r words = not (precedes r (record_from words 0))
 
-module _ (r : Record) (w : List ℤ) (chunks : List (List ℤ)) (e : chunks ≡ first_chunks record_words (length w / record_words) w) (l : length chunks ≡ length w / record_words) (o : is_sorted (all_of w) ≡ true) where
+module _
+    (r : Record) (w : List ℤ) (chunks : List (List ℤ)) (e : chunks ≡ first_chunks record_words (length w / record_words) w)
+    (l : length chunks ≡ length w / record_words) (o : is_sorted (all_of w) ≡ true) where
   abbrev none : Record
   none = record_from [] 0
 
