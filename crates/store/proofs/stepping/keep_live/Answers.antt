@@ -28,7 +28,8 @@ loop-i-preserved c =
       | else-lives_on w ↦
           let leaves = sym c.lives_on.ensures ∙ w.if-lives_on.false in
           let placed = w.place_by.ensures ∙ ap (λ (q : ℕ). placed_in q c.read_from-r.result.report) c.requires.is_step.to_is in
-          rw (w.store-is, w.dead-is, w.k-is) (pass_dead _ _ _ _ _ _ _ _ _ c.loop-i.invariant (omega arith) _ c.read_from-r.ensures leaves (ap not leaves) _ placed _ w.write_record-else-lives_on.ensures)
+          let more = pass_dead _ _ _ _ _ _ _ _ _ c.loop-i.invariant (omega arith) _ c.read_from-r.ensures leaves (ap not leaves) _ placed _ w.write_record-else-lives_on.ensures in
+          rw (w.store-is, w.dead-is, w.k-is) more
     ]
 
 pub returns-clause-kept_first : goal.returns-clause-kept_first
