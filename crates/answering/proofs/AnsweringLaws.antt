@@ -1,6 +1,7 @@
 -- What answering a line rests on: the call made on the index is the ledger's next call at that point, its answer's numbers fit a line, and the
 -- newline stands right behind what was written.
 -- Assumes nothing.
+use Rattle.std.specs.Prelude.{Result, Ok, Err}
 use mathlib.Core.Path.{◌≡◌, refl, sym, ap, subst, ◌∙◌}
 use mathlib.Core.Bool.{Bool, true, false, cond}
 use mathlib.Core.List.{List, [], ◌∷◌, ◌++◌, map, append_assoc}
@@ -29,8 +30,6 @@ use Rattle.ledger.specs.declared.Call.{Call}
 use Rattle.ledger.specs.declared.Call.TheVariants as Call
 use Rattle.ledger.specs.declared.Refusal.{Refusal}
 use Rattle.ledger.specs.declared.Refusal.TheVariants.{WrongLength, Unsound, BadTime, BadWindow, BadNumber, AlreadyHeld, NotHeld, Full, ListTooShort}
-use Rattle.ledger.specs.declared.Verdict.{Verdict}
-use Rattle.ledger.specs.declared.Verdict.TheVariants.{Passed, Failed}
 use Rattle.ledger.proofs.RefusalsLaws.{passes, first_passed, others_passed, passed_before, before_passed}
 use Rattle.asking.specs.Asking.{ids_needed, ask_settled}
 use Rattle.engine.specs.Index.{settled, open_out, clock_out, change_out, ask_out, call_out}
@@ -98,13 +97,13 @@ ids_told_lem (Listed n cells useful rounds) list = refl
 ids_told_lem (Refused r) list = refl
 
 -- an ask is accepted only where the list has room for the ids; no other call lists any
-asked_few : (w : Words) (ask : Ask) (list : List ℕ) (v : Verdict) → (v ≡ Passed → ids_needed w ask ≤ length list) → ids_told (ask_settled v w ask list).answer ≤ length list
-asked_few w ask list Passed few = few refl
-asked_few w ask list (Failed r) few = omega arith
+asked_few : (w : Words) (ask : Ask) (list : List ℕ) (v : Result (Unit {0}) Refusal) → (v ≡ Ok tt → ids_needed w ask ≤ length list) → ids_told (ask_settled v w ask list).answer ≤ length list
+asked_few w ask list (Ok tt) few = few refl
+asked_few w ask list (Err r) few = omega arith
 
-settled_few : (v : Verdict) (w w' : Words) (n : ℕ) → ids_told (settled v w w').answer ≤ n
-settled_few Passed w w' n = omega arith
-settled_few (Failed r) w w' n = omega arith
+settled_few : (v : Result (Unit {0}) Refusal) (w w' : Words) (n : ℕ) → ids_told (settled v w w').answer ≤ n
+settled_few (Ok tt) w w' n = omega arith
+settled_few (Err r) w w' n = omega arith
 
 pub few_told : (w : Words) (call : Call) (list : List ℕ) → ids_told (call_out w call list).answer ≤ length list
 unfolding call_out clock_out change_out ask_out
@@ -171,18 +170,18 @@ module _ (w : Words) (t : ℤ) (at : AtPoint w.store w.table) where
       let sound = point_sound w at.ledger at.point in
       sym (passes (wrong_length w) WrongLength (L.open_checks t) _ (right_length w sound) refl)
 
-  open_by : (v : Verdict) → (settled v w (opened t w)).answer ≡ answer_by v (Accepted 0)
-  open_by Passed = ap (λ (rs : List Record). Accepted (length rs)) (opened_records t w)
-  open_by (Failed r) = refl
+  open_by : (v : Result (Unit {0}) Refusal) → (settled v w (opened t w)).answer ≡ answer_by v (Accepted 0)
+  open_by (Ok tt) = ap (λ (rs : List Record). Accepted (length rs)) (opened_records t w)
+  open_by (Err r) = refl
 
   open_answer : (open_out w t).answer ≡ answer_of_open t
   unfolding open_out
-  open_answer = open_by (first_to_fail (open_checks w t)) ∙ ap (λ (v : Verdict). answer_by v (Accepted 0)) open_verdict
+  open_answer = open_by (first_to_fail (open_checks w t)) ∙ ap (λ (v : Result (Unit {0}) Refusal). answer_by v (Accepted 0)) open_verdict
 
   -- refused, the words stay
-  refused_stays : (v : Verdict) → is_accepted (settled v w (opened t w)).answer ≡ false → w ≡ (settled v w (opened t w)).words
-  refused_stays Passed e = absurd (true_false e)
-  refused_stays (Failed r) e = refl
+  refused_stays : (v : Result (Unit {0}) Refusal) → is_accepted (settled v w (opened t w)).answer ≡ false → w ≡ (settled v w (opened t w)).words
+  refused_stays (Ok tt) e = absurd (true_false e)
+  refused_stays (Err r) e = refl
 
   open_leads : (b : Bool) → is_accepted (open_out w t).answer ≡ b → (l : Ledger) → Point l w → Point (cond b (Ledger.opened t) l) (open_out w t).words
   unfolding open_out H.after L.after

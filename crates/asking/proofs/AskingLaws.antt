@@ -1,5 +1,6 @@
 -- What a sound index and an ask with good numbers give the functions that choose and read, and bounds on what these count.
 -- Assumes nothing.
+use Rattle.std.specs.Prelude.{Result, Ok, Err}
 use mathlib.Core.Path.{◌≡◌, refl, sym, ap, ◌∙◌}
 use mathlib.Core.Bool.{Bool, true, false}
 use mathlib.Core.List.{List, [], ◌∷◌, ◌++◌, append-nil, append_assoc}
@@ -42,13 +43,12 @@ use Rattle.ledger.specs.declared.Answer.{Answer}
 use Rattle.ledger.specs.declared.Answer.TheVariants.{Listed, Refused}
 use Rattle.ledger.specs.declared.Ask.{Ask}
 use Rattle.ledger.specs.declared.Refusal.TheVariants.{ListTooShort}
-use Rattle.ledger.specs.declared.Verdict.{Verdict}
-use Rattle.ledger.specs.declared.Verdict.TheVariants.{Passed, Failed}
 use Rattle.asking.specs.Asking.{listed_of, phases_now, ids_needed, ids_found, cells_counted, useful_counted, rounds_counted, AskOutcome, GivesList}
 use Rattle.asking.specs.Counted.{CanAsk, room_checks, settled_by_room, CanChooseIn, CanReadIn, ReadIn, SmallCounts, CountedTogether, ids_listed, CountedIn, CountedAlso, CountedOver}
 use Rattle.asking.specs.declared.Counts.{Counts}
 use Rattle.asking.proofs.AskingPhasesLaws.{FitAsk, fit_ask, good_method, fit_small, fit_in_order, asked_in, small_times, can_count}
 use Rattle.asking.proofs.Claims.{found_is, list_is_exact}
+use Rattle.ledger.specs.declared.Refusal.{Refusal}
 
 module _ (w : Words) (ask : Ask) (can : CanAsk w ask) where
   parts : Sound.Sound w.store w.table
@@ -301,14 +301,14 @@ module _ (w : Words) (ask : Ask) (can : CanAsk w ask) (list ids : List ℕ) (c :
   pub enough : c.read.listed ≤ length list → CanList front list
   enough h = record { as_many = ap length front_found ∙ count_is ∙ sym front_long; room = omega (arith, front_long) }
 
-  abbrev verdict : Verdict
+  abbrev verdict : Result (Unit {0}) Refusal
   verdict = first_to_fail (room_checks (length list) (ids_needed w ask))
 
-  too_short : length list < c.read.listed → verdict ≡ Failed (ListTooShort (ids_needed w ask))
+  too_short : length list < c.read.listed → verdict ≡ Err (ListTooShort (ids_needed w ask))
   unfolding first_to_fail
   too_short h = rw (lt-ltb (length list) (ids_needed w ask) (omega (arith, needed))) refl
 
-  has_room : c.read.listed ≤ length list → verdict ≡ Passed
+  has_room : c.read.listed ≤ length list → verdict ≡ Ok tt
   unfolding first_to_fail
   has_room h = rw (le-ltb (length list) (ids_needed w ask) (omega (arith, needed))) refl
 

@@ -1,7 +1,7 @@
 -- What an ask finds in the lent words, phase by phase, and what it gives back: document 01, "The four ways to choose cells", its last paragraph,
 -- and "Store and table", the answer list. Total: for every word, every number and every list.
 -- Assumes nothing.
-use Rattle.std.specs.Prelude.{◌≡◌, List, [], ◌∷◌, ◌++◌, ℕ, suc, length, drop, replicate}
+use Rattle.std.specs.Prelude.{◌≡◌, List, [], ◌∷◌, ◌++◌, ℕ, suc, length, drop, replicate, Result, Ok, Err}
 use Rattle.ints.specs.Whole.{up}
 use Rattle.grid.specs.Units.{cells, last_id}
 use Rattle.grid.specs.Reports.{is_listed}
@@ -19,8 +19,7 @@ use Rattle.ledger.specs.Answers.{number_of, value_of, counts_of}
 use Rattle.ledger.specs.declared.Answer.{Answer}
 use Rattle.ledger.specs.declared.Answer.TheVariants.{Listed, Refused}
 use Rattle.ledger.specs.declared.Ask.{Ask}
-use Rattle.ledger.specs.declared.Verdict.{Verdict}
-use Rattle.ledger.specs.declared.Verdict.TheVariants.{Passed, Failed}
+use Rattle.ledger.specs.declared.Refusal.{Refusal}
 
 module _ (w : Words) (ask : Ask) where
   -- in a live phase: the choice by the rows of its slot, the chosen cells as marks, and the records that reading these lists
@@ -63,9 +62,9 @@ pub record AskOutcome : Type 0 where
   pub list : List ℕ
 
 -- by the verdict of its checks: refused, the list stays; else the ids are written in front and the rest of the list is kept
-abbrev pub ask_settled : Verdict → Words → Ask → List ℕ → AskOutcome
-ask_settled (Failed r) w ask list = record { answer = Refused r; list = list }
-ask_settled Passed w ask list = record {
+abbrev pub ask_settled : Result (Unit {0}) Refusal → Words → Ask → List ℕ → AskOutcome
+ask_settled (Err r) w ask list = record { answer = Refused r; list = list }
+ask_settled (Ok tt) w ask list = record {
   answer = Listed (ids_needed w ask) (cells_counted w ask) (useful_counted w ask) (rounds_counted w ask);
   list = ids_found w ask ++ drop (length (ids_found w ask)) list;
 }

@@ -1,6 +1,7 @@
 -- The claim of specs/Hosts.antt: each exported call replies and leaves the words as the index's definition of it does, so what is seen of a list is
 -- what the index replies to it, and that is the ledger's by the claim over every list.
 -- Assumes nothing.
+use Rattle.std.specs.Prelude.{Result, Ok, Err}
 use mathlib.Core.Path.{◌≡◌, refl, sym, ap, ap₂, ◌∙◌}
 use mathlib.Core.Bool.{Bool, true, cond}
 use mathlib.Core.List.{List, [], ◌∷◌, map}
@@ -16,8 +17,6 @@ use Rattle.ledger.specs.declared.Answer.{Answer}
 use Rattle.ledger.specs.declared.Ask.{Ask}
 use Rattle.ledger.specs.declared.Call.TheVariants as Call
 use Rattle.ledger.specs.declared.Change.TheVariants as Change
-use Rattle.ledger.specs.declared.Verdict.{Verdict}
-use Rattle.ledger.specs.declared.Verdict.TheVariants.{Passed, Failed}
 use Rattle.ledger.proofs.Claims.{refusals_are_plain}
 use Rattle.asking.specs.Asking.{ask_settled}
 use Rattle.engine.specs.Index.{settled, open_out, clock_out, change_out, ask_out, leaving_list, leaving_words, call_out}
@@ -30,6 +29,7 @@ use Rattle.capi.specs.Replies.{Replies, RepliesList}
 use Rattle.ledger.specs.Calls.{ask_of, window_of}
 use Rattle.capi.specs.Hosts.{HostCall, clock, add, report, drop, ask, ask_window, call_of, list_of, fed, Seen, ids_in, seen_of, Changes, Asks, Made, AllMade, none, one, HostsSeeTheLedger}
 use Rattle.capi.specs.declared.Reply.{Reply}
+use Rattle.ledger.specs.declared.Refusal.{Refusal}
 
 -- the same call to the index's definition
 abbrev lent : HostCall → LentCall
@@ -44,22 +44,22 @@ record Agrees (w : Words) (call : HostCall) (seen : Seen) (after : Words) : Type
   words_are : after ≡ Index.next w (lent call)
 
 -- a call that is no ask lists nothing
-none_listed : (v : Verdict) (w w' : Words) → ids_written (settled v w w').answer [] ≡ []
-none_listed Passed w w' = refl
-none_listed (Failed r) w w' = refl
+none_listed : (v : Result (Unit {0}) Refusal) (w w' : Words) → ids_written (settled v w w').answer [] ≡ []
+none_listed (Ok tt) w w' = refl
+none_listed (Err r) w w' = refl
 
-changed : (v : Verdict) (w w' : Words) (seen : Seen) (after : Words) → Changes (Replies (settled v w w')) seen after
+changed : (v : Result (Unit {0}) Refusal) (w w' : Words) (seen : Seen) (after : Words) → Changes (Replies (settled v w w')) seen after
     → (seen ≡ seen_of (Index.reply_of (leaving_list (settled v w w') []))) × (after ≡ (settled v w w').words)
 changed v w w' seen after c =
     (λ i. record { reply = c.promised.reply_is i; ids = (c.no_ids ∙ sym (none_listed v w w')) i }, c.promised.words_are)
 
 -- the ids in front of an accepted ask's list
-ids_written_lem : (v : Verdict) (w : Words) (k : Ask) (list : List ℕ)
+ids_written_lem : (v : Result (Unit {0}) Refusal) (w : Words) (k : Ask) (list : List ℕ)
     → let o = ask_settled v w k list in cond (is_accepted o.answer) (take (value_of o.answer) o.list) [] ≡ ids_written o.answer o.list
-ids_written_lem Passed w k list = refl
-ids_written_lem (Failed r) w k list = refl
+ids_written_lem (Ok tt) w k list = refl
+ids_written_lem (Err r) w k list = refl
 
-asked : (v : Verdict) (w : Words) (k : Ask) (list : List ℕ) (seen : Seen) (after : Words) → Asks (RepliesList (ask_settled v w k list)) w seen after
+asked : (v : Result (Unit {0}) Refusal) (w : Words) (k : Ask) (list : List ℕ) (seen : Seen) (after : Words) → Asks (RepliesList (ask_settled v w k list)) w seen after
     → seen ≡ seen_of (Index.reply_of (leaving_words (ask_settled v w k list) w))
 asked v w k list seen after a =
     let o = ask_settled v w k list in

@@ -1,5 +1,6 @@
 -- What the first two checks, of the lent words, leave for the others; and what the checks of a clock, a change and an ask say when they are passed.
 -- Assumes nothing.
+use Rattle.std.specs.Prelude.{Result, Ok, Err}
 use mathlib.Core.Path.{◌≡◌, refl, sym, ap, ◌∙◌, subst}
 use mathlib.Core.Bool.{Bool, true, false, not, ◌&&◌}
 use mathlib.Core.List.{List, [], ◌∷◌}
@@ -36,11 +37,8 @@ use Rattle.words.proofs.WordsSteppedLaws.{stepped_records_lem, stepped_can_chang
 use Rattle.ledger.specs.Refusals.{Check, check, unless, first_to_fail, bad_time, bad_step_time, time_of, id_of, bad_numbers, held_checks, change_checks, ask_number_checks}
 use Rattle.ledger.specs.declared.Ask.{Ask}
 use Rattle.ledger.specs.declared.Change.{Change}
-use Rattle.ledger.specs.declared.Change.TheVariants as Change
 use Rattle.ledger.specs.declared.Refusal.{Refusal}
 use Rattle.ledger.specs.declared.Refusal.TheVariants.{WrongLength, Unsound, BadTime, BadNumber, AlreadyHeld, NotHeld, Full}
-use Rattle.ledger.specs.declared.Verdict.{Verdict}
-use Rattle.ledger.specs.declared.Verdict.TheVariants.{Passed, Failed}
 use Rattle.ledger.proofs.RefusalsLaws.{passes, not_both, first_passed, others_passed, ask_good}
 use Rattle.asking.specs.Counted.{CanAsk}
 use Rattle.engine.specs.Checks.{wrong_length, unsound, lent_checks, open_checks, checks_of_change}
@@ -51,16 +49,16 @@ use Rattle.engine.specs.Sound.{CanMake, CanApply, held_after, CanCount}
 
 module _ (w : Words) where
   -- refused for the lent words, whatever checks come after
-  pub lent_failed : (v : Verdict) (r : Refusal) → v ≡ first_to_fail (lent_checks w []) → v ≡ Failed r → (more : List Check) → first_to_fail (lent_checks w more) ≡ Failed r
+  pub lent_failed : (v : Result (Unit {0}) Refusal) (r : Refusal) → v ≡ first_to_fail (lent_checks w []) → v ≡ Err r → (more : List Check) → first_to_fail (lent_checks w more) ≡ Err r
   unfolding first_to_fail
   lent_failed v r e f more = go (wrong_length w) (unsound w) (sym e ∙ f)
     where
-      go : (a b : Bool) → unless a WrongLength (unless b Unsound Passed) ≡ Failed r → unless a WrongLength (unless b Unsound (first_to_fail more)) ≡ Failed r
+      go : (a b : Bool) → unless a WrongLength (unless b Unsound (Ok tt)) ≡ Err r → unless a WrongLength (unless b Unsound (first_to_fail more)) ≡ Err r
       go true b h = h
       go false true h = h
       go false false h = absurd (not_both refl h)
 
-  pub lent_sound : (v : Verdict) → v ≡ first_to_fail (lent_checks w []) → v ≡ Passed → are_sound w ≡ true
+  pub lent_sound : (v : Result (Unit {0}) Refusal) → v ≡ first_to_fail (lent_checks w []) → v ≡ Ok tt → are_sound w ≡ true
   lent_sound v e p =
       let rest = others_passed (wrong_length w) WrongLength (check (unsound w) Unsound ∷ []) (sym e ∙ p) in
       not-false (are_sound w) (first_passed (unsound w) Unsound [] rest)
@@ -75,7 +73,7 @@ module _ (w : Words) where
         table_long = eqb-true (length w.table) table_words (and_right s t both);
       }
 
-  pub opens_rightly : (v : Verdict) (t : ℤ) → v ≡ first_to_fail (open_checks w t) → v ≡ Passed → RightLengths w
+  pub opens_rightly : (v : Result (Unit {0}) Refusal) (t : ℤ) → v ≡ first_to_fail (open_checks w t) → v ≡ Ok tt → RightLengths w
   opens_rightly v t e p = right_lengths (first_passed (wrong_length w) WrongLength (check (bad_time t) BadTime ∷ []) (sym e ∙ p))
 
 module _ (w : Words) (sound : are_sound w ≡ true) where
@@ -108,7 +106,7 @@ module _ (w : Words) (sound : are_sound w ≡ true) where
       let later = n.1 in
       record { sound = sound; is_time_lem = not-false (is_time t) n.0; not_past = omega (arith, signed) }
 
-  pub ask_passed : (ask : Ask) → first_to_fail (ask_number_checks (time_in w) ask) ≡ Passed → CanAsk w ask
+  pub ask_passed : (ask : Ask) → first_to_fail (ask_number_checks (time_in w) ask) ≡ Ok tt → CanAsk w ask
   ask_passed ask p =
       let good = ask_good (time_in w) ask p in
       record { sound = sound; good_time = good.good_time; good_numbers = good.good_numbers }
@@ -143,7 +141,7 @@ module _ (w : Words) (c : Change) (can : CanMake w c) where
   pub change_can_step : CanStep w (time_of c)
   change_can_step = can_step w can.sound (time_of c) (first_passed (bad_step_time (time_in w) (time_of c)) BadTime rest can.passed)
 
-  numbers_passed : first_to_fail rest ≡ Passed
+  numbers_passed : first_to_fail rest ≡ Ok tt
   numbers_passed = others_passed (bad_step_time (time_in w) (time_of c)) BadTime rest can.passed
 
   pub change_can_apply : CanApply (stepped (time_of c) w) c
@@ -191,7 +189,7 @@ can_count w c can = record {
   few = can.can_change.is_store.few;
   one_to_drop = λ id t e.
       let holds_id = has_id id (records_in w) in
-      let passed = subst (λ (x : Change). first_to_fail (held_checks x (has_id (id_of x) (records_in w)) (length (records_in w))) ≡ Passed) e can.held_good in
+      let passed = subst (λ (x : Change). first_to_fail (held_checks x (has_id (id_of x) (records_in w)) (length (records_in w))) ≡ Ok tt) e can.held_good in
       one_at_least id (records_in w) (not-false holds_id (first_passed (not holds_id) NotHeld [] passed));
 }
 

@@ -1,5 +1,6 @@
 -- A call whose answer and words are those of its definition gives it: by its verdict, refused with the words at entry, or done.
 -- Assumes nothing.
+use Rattle.std.specs.Prelude.{Result, Ok, Err}
 use mathlib.Core.Path.{◌≡◌, refl, ap, ◌∙◌}
 use mathlib.Core.List.{List}
 use Prim.Native.Nat.{ℕ}
@@ -12,11 +13,8 @@ use Rattle.ledger.specs.declared.Answer.{Answer}
 use Rattle.ledger.specs.declared.Answer.TheVariants.{Accepted, Refused}
 use Rattle.ledger.specs.declared.Ask.{Ask}
 use Rattle.ledger.specs.declared.Call.{Call}
-use Rattle.ledger.specs.declared.Call.TheVariants as Call
 use Rattle.ledger.specs.declared.Change.{Change}
 use Rattle.ledger.specs.declared.Refusal.{Refusal}
-use Rattle.ledger.specs.declared.Verdict.{Verdict}
-use Rattle.ledger.specs.declared.Verdict.TheVariants.{Passed, Failed}
 use Rattle.asking.specs.Asking.{ask_settled, GivesList}
 use Rattle.asking.proofs.AskingLaws.{gives_list}
 use Rattle.engine.specs.Index.{Outcome, settled, clock_out, change_out, ask_out, call_out}
@@ -32,18 +30,18 @@ gives o a w e x = record {
   words_are = x;
 }
 
-pub refused : (v : Verdict) (r : Refusal) (w w' : Words) → v ≡ Failed r → Gives (settled v w w') (Refused r) w
-refused v r w w' e = rw e (gives (settled (Failed r) w w') (Refused r) w refl refl)
+pub refused : (v : Result (Unit {0}) Refusal) (r : Refusal) (w w' : Words) → v ≡ Err r → Gives (settled v w w') (Refused r) w
+refused v r w w' e = rw e (gives (settled (Err r) w w') (Refused r) w refl refl)
 
-pub done : (v : Verdict) (w w' : Words) (a : Answer) (w'' : Words) → v ≡ Passed → Done w' a w'' → Gives (settled v w w') a w''
-done v w w' a w'' e d = rw e (gives (settled Passed w w') a w'' d.answer_is d.words_are)
+pub done : (v : Result (Unit {0}) Refusal) (w w' : Words) (a : Answer) (w'' : Words) → v ≡ Ok tt → Done w' a w'' → Gives (settled v w w') a w''
+done v w w' a w'' e d = rw e (gives (settled (Ok tt) w w') a w'' d.answer_is d.words_are)
 
 -- the words at exit and the floats held in them
 pub done_of : (s table : List ℤ) (w : Words) (a : Answer) → words s table ≡ w → a ≡ Accepted (length (records_of s)) → Done w a (words s table)
 done_of s table w a e x = record { answer_is = x ∙ ap (λ (v : Words). Accepted (length (records_in v))) e; words_are = e }
 
-pub list_refused : (v : Verdict) (r : Refusal) (w : Words) (ask : Ask) (list : List ℕ) → v ≡ Failed r → GivesList (ask_settled v w ask list) (Refused r) list
-list_refused v r w ask list e = rw e (gives_list (ask_settled (Failed r) w ask list) (Refused r) list refl refl)
+pub list_refused : (v : Result (Unit {0}) Refusal) (r : Refusal) (w : Words) (ask : Ask) (list : List ℕ) → v ≡ Err r → GivesList (ask_settled v w ask list) (Refused r) list
+list_refused v r w ask list e = rw e (gives_list (ask_settled (Err r) w ask list) (Refused r) list refl refl)
 
 -- a call by its kind
 module _ (w : Words) (list : List ℕ) (a : Answer) (w' : Words) where

@@ -1,6 +1,7 @@
 -- Every answer over sound words has small numbers: at most 1,024 floats are held, three phases are live, each has 1,024 cells, and no method
 -- takes more than 64 rounds in one.
 -- Assumes nothing.
+use Rattle.std.specs.Prelude.{Result, Ok, Err}
 use mathlib.Core.Path.{◌≡◌, refl, ap, ◌∙◌}
 use mathlib.Core.Bool.{Bool, true, false}
 use mathlib.Core.List.{List, [], ◌∷◌}
@@ -32,18 +33,15 @@ use Rattle.ledger.specs.declared.Answer.{Answer}
 use Rattle.ledger.specs.declared.Answer.TheVariants.{Accepted, Refused}
 use Rattle.ledger.specs.declared.Ask.{Ask}
 use Rattle.ledger.specs.declared.Call.{Call}
-use Rattle.ledger.specs.declared.Call.TheVariants as Call
 use Rattle.ledger.specs.declared.Change.{Change}
-use Rattle.ledger.specs.declared.Change.TheVariants as Change
 use Rattle.ledger.specs.declared.Refusal.TheVariants.{BadTime}
-use Rattle.ledger.specs.declared.Verdict.{Verdict}
-use Rattle.ledger.specs.declared.Verdict.TheVariants.{Passed, Failed}
 use Rattle.ledger.proofs.RefusalsLaws.{first_passed}
 use Rattle.asking.specs.Asking.{choice_of, marks_in, listed_of, phases_now, ids_needed, cells_counted, useful_counted, rounds_counted, ask_settled}
 use Rattle.asking.proofs.AskingLaws.{few_rounds}
 use Rattle.engine.specs.Index.{settled, open_out, clock_out, changed, change_out, ask_out, call_out}
 use Rattle.engine.specs.Checks.{open_checks, checks_of, checks_of_change}
 use Rattle.engine.proofs.ChecksLaws.{sound_store, sound_lent, can_step, stepped_length, change_can_step}
+use Rattle.ledger.specs.declared.Refusal.{Refusal}
 
 -- the most that any number of an answer is
 abbrev pub most : ℕ
@@ -65,9 +63,9 @@ accepted n h = zeros (Accepted n) h (omega arith) (omega arith) (omega arith)
 
 -- ---- refusals
 
-refused_with : Verdict → ℕ
-refused_with Passed = 0
-refused_with (Failed r) = refusal_value r
+refused_with : Result (Unit {0}) Refusal → ℕ
+refused_with (Ok tt) = 0
+refused_with (Err r) = refusal_value r
 
 AllSmall : List Check → Type 0
 AllSmall [] = Unit {0}
@@ -82,10 +80,10 @@ first_small (c ∷ cs) all = go c.fails (first_small cs all.1)
     go true k = all.0
     go false k = k
 
-settled_small : (v : Verdict) (w w' : Words) → refused_with v ≤ most → (v ≡ Passed → length (records_in w') ≤ most) → SmallAnswer (settled v w w').answer
+settled_small : (v : Result (Unit {0}) Refusal) (w w' : Words) → refused_with v ≤ most → (v ≡ Ok tt → length (records_in w') ≤ most) → SmallAnswer (settled v w w').answer
 unfolding refused_with
-settled_small Passed w w' h k = accepted (length (records_in w')) (k refl)
-settled_small (Failed r) w w' h k = zeros (Refused r) h (omega arith) (omega arith) (omega arith)
+settled_small (Ok tt) w w' h k = accepted (length (records_in w')) (k refl)
+settled_small (Err r) w w' h k = zeros (Refused r) h (omega arith) (omega arith) (omega arith)
 
 -- the value of each refusal but 8
 none : 0 ≤ most
@@ -185,10 +183,10 @@ module _ (w : Words) (sound : are_sound w ≡ true) where
         let n = few_phases (phase_of (time_in w)) in
         omega arith
 
-  ask_settled_lem : (v : Verdict) (ask : Ask) (list : List ℕ) → refused_with v ≤ most → SmallAnswer (ask_settled v w ask list).answer
+  ask_settled_lem : (v : Result (Unit {0}) Refusal) (ask : Ask) (list : List ℕ) → refused_with v ≤ most → SmallAnswer (ask_settled v w ask list).answer
   unfolding refused_with
-  ask_settled_lem Passed ask list h = record { value = needed ask; cells = read ask; useful = useful_ones ask; rounds = rounds_taken ask }
-  ask_settled_lem (Failed r) ask list h = zeros (Refused r) h (omega arith) (omega arith) (omega arith)
+  ask_settled_lem (Ok tt) ask list h = record { value = needed ask; cells = read ask; useful = useful_ones ask; rounds = rounds_taken ask }
+  ask_settled_lem (Err r) ask list h = zeros (Refused r) h (omega arith) (omega arith) (omega arith)
 
   ask_small : (ask : Ask) (list : List ℕ) → SmallAnswer (ask_out w ask list).answer
   unfolding ask_out AllSmall

@@ -9,11 +9,8 @@ use Rattle.records.specs.Words.{Words, time_in, records_in, are_sound}
 use Rattle.records.specs.declared.Record.{Record}
 use Rattle.retiring.specs.Retiring.{stepped_records}
 use Rattle.ledger.specs.Refusals.{Check, check, bad_time, clock_checks, time_of, id_of, change_checks, ask_checks}
-use Rattle.ledger.specs.declared.Ask.{Ask}
 use Rattle.ledger.specs.declared.Call.{Call}
-use Rattle.ledger.specs.declared.Call.TheVariants as Call
 use Rattle.ledger.specs.declared.Change.{Change}
-use Rattle.ledger.specs.declared.Change.TheVariants as Change
 use Rattle.ledger.specs.declared.Refusal.TheVariants.{WrongLength, Unsound, BadTime}
 use Rattle.asking.specs.Asking.{ids_needed}
 

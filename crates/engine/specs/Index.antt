@@ -1,7 +1,7 @@
 -- What each public call of the index gives back and leaves in the lent words, as an equation of the words at entry: document 01, "What a call
 -- gives back when it declines", "Store and table" and "Phases and speed rows". Total: for every number and every buffer of every length.
 -- Assumes nothing.
-use Rattle.std.specs.Prelude.{List, [], ℕ, ℤ, length}
+use Rattle.std.specs.Prelude.{List, ℕ, ℤ, length, Result, Ok, Err}
 use Rattle.records.specs.Words.{Words, records_in}
 use Rattle.words.specs.Words.{opened, stepped, placed, taken_out}
 use Rattle.ledger.specs.Refusals.{first_to_fail, time_of}
@@ -9,13 +9,10 @@ use Rattle.ledger.specs.declared.Answer.{Answer}
 use Rattle.ledger.specs.declared.Answer.TheVariants.{Accepted, Refused}
 use Rattle.ledger.specs.declared.Ask.{Ask}
 use Rattle.ledger.specs.declared.Call.{Call}
-use Rattle.ledger.specs.declared.Call.TheVariants as Call
 use Rattle.ledger.specs.declared.Change.{Change}
-use Rattle.ledger.specs.declared.Change.TheVariants as Change
-use Rattle.ledger.specs.declared.Verdict.{Verdict}
-use Rattle.ledger.specs.declared.Verdict.TheVariants.{Passed, Failed}
 use Rattle.asking.specs.Asking.{AskOutcome, ask_settled}
 use Rattle.engine.specs.Checks.{open_checks, checks_of}
+use Rattle.ledger.specs.declared.Refusal.{Refusal}
 
 -- ---- open, clock and the changes
 
@@ -25,9 +22,9 @@ pub record Outcome : Type 0 where
   pub words : Words
 
 -- by the verdict of its checks: refused, the words at entry; else the new words and the floats held in them
-abbrev pub settled : Verdict → Words → Words → Outcome
-settled (Failed r) w w' = record { answer = Refused r; words = w }
-settled Passed w w' = record { answer = Accepted (length (records_in w')); words = w' }
+abbrev pub settled : Result (Unit {0}) Refusal → Words → Words → Outcome
+settled (Err r) w w' = record { answer = Refused r; words = w }
+settled (Ok tt) w w' = record { answer = Accepted (length (records_in w')); words = w' }
 
 unfoldable pub open_out : Words → ℤ → Outcome
 open_out w t = settled (first_to_fail (open_checks w t)) w (opened t w)

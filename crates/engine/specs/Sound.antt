@@ -1,7 +1,7 @@
 -- What the calls over sound words ask, and what a change that passed its checks gives back. Nothing here is part of what a reader must
 -- believe: the public calls have no `requires`.
 -- Assumes nothing.
-use Rattle.std.specs.Prelude.{◌≡◌, true, false, List, ℕ, ◌+◌, ◌-◌, ◌≤◌, ◌<◌, ℤ, length}
+use Rattle.std.specs.Prelude.{◌≡◌, true, false, List, ℕ, ◌+◌, ◌-◌, ◌≤◌, ◌<◌, ℤ, length, Ok}
 use Rattle.grid.specs.Units.{capacity}
 use Rattle.grid.specs.Reports.{is_time, stays_at}
 use Rattle.records.specs.Records.{records_of}
@@ -14,8 +14,6 @@ use Rattle.ledger.specs.Refusals.{first_to_fail, time_of, id_of, bad_numbers, he
 use Rattle.ledger.specs.declared.Answer.{Answer}
 use Rattle.ledger.specs.declared.Answer.TheVariants.{Accepted}
 use Rattle.ledger.specs.declared.Change.{Change}
-use Rattle.ledger.specs.declared.Change.TheVariants as Change
-use Rattle.ledger.specs.declared.Verdict.TheVariants.{Passed}
 use Rattle.engine.specs.Checks.{checks_of_change}
 
 -- a store with distinct ids, and how many floats stay at the clock step of a change
@@ -26,7 +24,7 @@ pub record CanJudge (s : List ℤ) (c : Change) (left : ℕ) : Type 0 where
 -- sound words and a change that passed its checks
 pub record CanMake (w : Words) (c : Change) : Type 0 where
   pub sound : are_sound w ≡ true
-  pub passed : first_to_fail (checks_of_change (time_in w) (records_in w) c) ≡ Passed
+  pub passed : first_to_fail (checks_of_change (time_in w) (records_in w) c) ≡ Ok tt
 
 -- and how many floats stay at its clock step
 pub record CanMakeWith (w : Words) (c : Change) (left : ℕ) : Type 0 where
@@ -48,7 +46,7 @@ pub record CanApply (w : Words) (c : Change) : Type 0 where
   pub can_change : CanChange w
   pub is_time_lem : is_time (time_of c) ≡ true
   pub good_numbers : bad_numbers c ≡ false
-  pub held_good : first_to_fail (held_checks c (has_id (id_of c) (records_in w)) (length (records_in w))) ≡ Passed
+  pub held_good : first_to_fail (held_checks c (has_id (id_of c) (records_in w)) (length (records_in w))) ≡ Ok tt
 
 -- the new words, and the floats held in them
 pub record Done (w : Words) (a : Answer) (w' : Words) : Type 0 where

@@ -1,5 +1,7 @@
 // The checks of the calls, in their order, the first to fail given: those of the lent buffers (`lent_verdict`), and those that go by the numbers
 // and the records of buffers known to be sound.
+#![tactic(auto, unfolding(ledger::specs::Refusals::first_to_fail, ledger::specs::Refusals::is_rectangle))]
+
 ghost use Rattle.std.specs.Prelude.{◌≡◌, ◌&&◌, not, [], ◌∷◌, ◌<◌, ◌≤◌, ◌^◌, leb, nat_abs, pos, ◌+ℤ◌, ◌-ℤ◌, length};
 ghost use Rattle.std.specs.Int.Signed.{le_z};
 ghost use Rattle.ints.specs.Whole.{between};
@@ -14,8 +16,8 @@ ghost use Rattle.ledger.specs.declared.Refusal.TheVariants.{AlreadyHeld, NotHeld
 ghost use Rattle.engine.specs.Checks.{wrong_length, open_checks, lent_checks, checks_of_change};
 ghost use Rattle.engine.specs.Sound.{CanJudge};
 
-use grid::{LAST_ID, LAST_POSITION, LAST_TIME, Query, Range, Rect, When, wide_signed};
-use ledger::{Ask, Change, Refusal, Verdict};
+use grid::{LAST_ID, LAST_POSITION, LAST_TIME, Query, Range, Rect, When};
+use ledger::{Ask, Change, Refusal};
 
 // A corner of a rectangle is compared in 64 bits.
 const LAST_CORNER: i64 = LAST_POSITION as i64;
@@ -32,22 +34,19 @@ const LONGEST_WINDOW: i64 = 3600;
 pub fn wrong_length(store: &[i32], table: &[i16]) -> bool
     ensures { result ≡ wrong_length (words store.now table.now) }
 {
-    if store.len() != records::STORE_WORDS {
-        return true;
-    }
-    table.len() != rows::TABLE_WORDS
+    store.len() != records::STORE_WORDS || table.len() != rows::TABLE_WORDS
 }
 
 pub fn is_time(t: i32) -> bool
     ensures { result ≡ is_time t }
 {
-    0 <= t && t <= LAST_TIME
+    (0..=LAST_TIME).contains(&t)
 }
 
 fn is_id(id: i32) -> bool
     ensures { result ≡ is_id id }
 {
-    1 <= id && id <= LAST_ID
+    (1..=LAST_ID).contains(&id)
 }
 
 // 3, for the calls that step to time t.
@@ -55,10 +54,7 @@ fn bad_step_time(store: &[i32], t: i32) -> bool
     requires { 0 < length store.now }
     ensures { result ≡ bad_step_time (now_of store.now) t }
 {
-    if !is_time(t) {
-        return true;
-    }
-    wide_signed(t) < records::now_of(store)
+    !is_time(t) || i64::from(t) < records::now_of(store)
 }
 
 // Whether an ask lies near enough to the time of the store.
@@ -66,7 +62,7 @@ fn is_near(time: i64, asked: i64) -> bool
     requires { nat_abs time ≤ 2 ^ 31 }
     ensures { result ≡ between (time -ℤ pos 3600) (time +ℤ pos 7200) asked }
 {
-    time - ASK_BEFORE <= asked && asked <= time + ASK_AFTER
+    (time - ASK_BEFORE..=time + ASK_AFTER).contains(&asked)
 }
 
 // Whether a time of an ask is outside its range: no time, or too far from the time of the store.
@@ -74,10 +70,7 @@ fn out_of_ask_range(store: &[i32], t: i32) -> bool
     requires { 0 < length store.now }
     ensures { result ≡ out_of_ask_range (now_of store.now) t }
 {
-    if !is_time(t) {
-        return true;
-    }
-    !is_near(records::now_of(store), wide_signed(t))
+    !is_time(t) || !is_near(records::now_of(store), i64::from(t))
 }
 
 // 3, for ask: of a window, either time.
@@ -85,8 +78,7 @@ fn bad_ask_time(store: &[i32], query: Query) -> bool
     requires { 0 < length store.now }
     ensures { result ≡ bad_ask_time (now_of store.now) query }
 {
-    let when = query.when;
-    match when {
+    match query.when {
         When::At(t) => out_of_ask_range(store, t),
         When::During(first, last) => out_of_ask_range(store, first)
             || out_of_ask_range(store, last),
@@ -97,17 +89,15 @@ fn bad_ask_time(store: &[i32], query: Query) -> bool
 fn is_span(first: i32, last: i32) -> bool
     ensures { result ≡ between first (first +ℤ pos longest_window) last }
 {
-    let from = wide_signed(first);
-    let to = wide_signed(last);
-    from <= to && to <= from + LONGEST_WINDOW
+    let from = i64::from(first);
+    (from..=from + LONGEST_WINDOW).contains(&i64::from(last))
 }
 
 // 10, for a window.
 fn bad_window(query: Query) -> bool
     ensures { result ≡ bad_window query }
 {
-    let when = query.when;
-    match when {
+    match query.when {
         When::At(_) => false,
         When::During(first, last) => !is_span(first, last),
     }
@@ -116,7 +106,7 @@ fn bad_window(query: Query) -> bool
 fn is_position(z: i64) -> bool
     ensures { result ≡ is_position z }
 {
-    0 <= z && z <= LAST_CORNER
+    (0..=LAST_CORNER).contains(&z)
 }
 
 fn in_sea(range: Range) -> bool
@@ -135,64 +125,55 @@ fn in_order(q: Rect) -> bool
 fn is_rectangle(q: Rect) -> bool
     ensures { result ≡ is_rectangle q }
 {
-    if !in_sea(q.x) {
-        return false;
-    }
-    if !in_sea(q.y) {
-        return false;
-    }
-    in_order(q)
+    in_sea(q.x) && in_sea(q.y) && in_order(q)
 }
 
 fn is_method(method: i32) -> bool
     ensures { result ≡ between (pos 0) (pos 3) method }
 {
-    0 <= method && method <= 3
+    (0..=3).contains(&method)
 }
 
 // 4, for ask.
 fn bad_ask(ask: Ask) -> bool
     ensures { result ≡ bad_ask ask }
 {
-    if !is_method(ask.method) {
-        return true;
-    }
-    !is_rectangle(ask.query.rect)
+    !is_method(ask.method) || !is_rectangle(ask.query.rect)
 }
 
 // 1 and 2.
-pub fn lent_verdict(store: &[i32], table: &[i16]) -> Verdict
+pub fn lent_verdict(store: &[i32], table: &[i16]) -> Result<(), Refusal>
     ensures { result ≡ first_to_fail (lent_checks (words store.now table.now) []) }
 {
     if wrong_length(store, table) {
-        return Verdict::Failed(Refusal::WrongLength);
+        return Err(Refusal::WrongLength);
     }
     if !records::soundness::is_sound(store, table) {
-        return Verdict::Failed(Refusal::Unsound);
+        return Err(Refusal::Unsound);
     }
-    Verdict::Passed
+    Ok(())
 }
 
-pub fn open_verdict(store: &[i32], table: &[i16], t: i32) -> Verdict
+pub fn open_verdict(store: &[i32], table: &[i16], t: i32) -> Result<(), Refusal>
     ensures { result ≡ first_to_fail (open_checks (words store.now table.now) t) }
 {
     if wrong_length(store, table) {
-        return Verdict::Failed(Refusal::WrongLength);
+        return Err(Refusal::WrongLength);
     }
     if !is_time(t) {
-        return Verdict::Failed(Refusal::BadTime);
+        return Err(Refusal::BadTime);
     }
-    Verdict::Passed
+    Ok(())
 }
 
-pub fn clock_verdict(store: &[i32], t: i32) -> Verdict
+pub fn clock_verdict(store: &[i32], t: i32) -> Result<(), Refusal>
     requires { IsStore store.now }
     ensures { result ≡ first_to_fail (clock_checks (now_of store.now) t) }
 {
     if bad_step_time(store, t) {
-        return Verdict::Failed(Refusal::BadTime);
+        return Err(Refusal::BadTime);
     }
-    Verdict::Passed
+    Ok(())
 }
 
 // 4, for a change.
@@ -200,74 +181,72 @@ fn bad_numbers(c: Change) -> bool
     ensures { result ≡ bad_numbers c }
 {
     match c {
-        Change::Add(r) => !records::soundness::in_range(r),
-        Change::Report(r) => !records::soundness::in_range(r),
+        Change::Add(r) | Change::Report(r) => !records::soundness::in_range(r),
         Change::Drop(id, _) => !is_id(id),
     }
 }
 
 // 5 and 7: of an add.
-fn add_verdict(is_held: bool, held: usize) -> Verdict
+fn add_verdict(is_held: bool, held: usize) -> Result<(), Refusal>
     ensures { result ≡ first_to_fail (check is_held AlreadyHeld ∷ check (leb capacity held) Full ∷ []) }
 {
     if is_held {
-        return Verdict::Failed(Refusal::AlreadyHeld);
+        return Err(Refusal::AlreadyHeld);
     }
     if records::CAPACITY <= held {
-        return Verdict::Failed(Refusal::Full);
+        return Err(Refusal::Full);
     }
-    Verdict::Passed
+    Ok(())
 }
 
 // 6: of a report or a drop.
-fn held_verdict(is_held: bool) -> Verdict
+fn held_verdict(is_held: bool) -> Result<(), Refusal>
     ensures { result ≡ first_to_fail (check (not is_held) NotHeld ∷ []) }
 {
     if !is_held {
-        return Verdict::Failed(Refusal::NotHeld);
+        return Err(Refusal::NotHeld);
     }
-    Verdict::Passed
+    Ok(())
 }
 
 // 5 to 7, by whether the float is held and how many are.
-fn verdict_by_held(c: Change, is_held: bool, held: usize) -> Verdict
+fn verdict_by_held(c: Change, is_held: bool, held: usize) -> Result<(), Refusal>
     ensures { result ≡ first_to_fail (held_checks c is_held held) }
 {
     match c {
         Change::Add(_) => add_verdict(is_held, held),
-        Change::Report(_) => held_verdict(is_held),
-        Change::Drop(_, _) => held_verdict(is_held),
+        Change::Report(_) | Change::Drop(_, _) => held_verdict(is_held),
     }
 }
 
 // Who is held, and how many are, is judged after the clock step, which is not made yet: `left` is how many floats stay at it.
-pub fn change_verdict(store: &[i32], c: Change, left: usize) -> Verdict
+pub fn change_verdict(store: &[i32], c: Change, left: usize) -> Result<(), Refusal>
     requires { CanJudge store.now c left }
     ensures { result ≡ first_to_fail (checks_of_change (now_of store.now) (records_of store.now) c) }
 {
     if bad_step_time(store, c.time()) {
-        return Verdict::Failed(Refusal::BadTime);
+        return Err(Refusal::BadTime);
     }
     if bad_numbers(c) {
-        return Verdict::Failed(Refusal::BadNumber);
+        return Err(Refusal::BadNumber);
     }
     let is_held = retiring::has_left(store, c.id(), c.time());
     verdict_by_held(c, is_held, left)
 }
 
 // The checks of an ask but the last, which wants the ids found.
-pub fn ask_verdict(store: &[i32], ask: Ask) -> Verdict
+pub fn ask_verdict(store: &[i32], ask: Ask) -> Result<(), Refusal>
     requires { IsStore store.now }
     ensures { result ≡ first_to_fail (ask_number_checks (now_of store.now) ask) }
 {
     if bad_ask_time(store, ask.query) {
-        return Verdict::Failed(Refusal::BadTime);
+        return Err(Refusal::BadTime);
     }
     if bad_window(ask.query) {
-        return Verdict::Failed(Refusal::BadWindow);
+        return Err(Refusal::BadWindow);
     }
     if bad_ask(ask) {
-        return Verdict::Failed(Refusal::BadNumber);
+        return Err(Refusal::BadNumber);
     }
-    Verdict::Passed
+    Ok(())
 }

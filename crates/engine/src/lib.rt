@@ -15,7 +15,7 @@ mod checks;
 pub mod sound;
 
 use grid::Report;
-use ledger::{Answer, Ask, Change, Verdict};
+use ledger::{Answer, Ask, Change};
 
 // An open that passed its checks.
 fn make_open(store: &mut [i32], table: &mut [i16], t: i32) -> Answer
@@ -31,8 +31,8 @@ pub fn open(store: &mut [i32], table: &mut [i16], t: i32) -> Answer
     ensures { Gives (open_out (words store.old table.old) t) result (words store.new table.new) }
 {
     match checks::open_verdict(&store[..], &table[..], t) {
-        Verdict::Failed(why) => Answer::Refused(why),
-        Verdict::Passed => make_open(store, table, t),
+        Err(why) => Answer::Refused(why),
+        Ok(()) => make_open(store, table, t),
     }
 }
 
@@ -41,8 +41,8 @@ pub fn clock(store: &mut [i32], table: &mut [i16], t: i32) -> Answer
     ensures { Gives (clock_out (words store.old table.old) t) result (words store.new table.new) }
 {
     match checks::lent_verdict(&store[..], &table[..]) {
-        Verdict::Failed(why) => Answer::Refused(why),
-        Verdict::Passed => sound::clock(store, table, t),
+        Err(why) => Answer::Refused(why),
+        Ok(()) => sound::clock(store, table, t),
     }
 }
 
@@ -51,8 +51,8 @@ pub fn change(store: &mut [i32], table: &mut [i16], c: Change) -> Answer
     ensures { Gives (change_out (words store.old table.old) c) result (words store.new table.new) }
 {
     match checks::lent_verdict(&store[..], &table[..]) {
-        Verdict::Failed(why) => Answer::Refused(why),
-        Verdict::Passed => sound::change(store, table, c),
+        Err(why) => Answer::Refused(why),
+        Ok(()) => sound::change(store, table, c),
     }
 }
 
@@ -82,7 +82,7 @@ pub fn ask(store: &[i32], table: &[i16], list: &mut [u16], ask: Ask) -> Answer
     ensures { GivesList (ask_out (words store.now table.now) ask list.old) result list.new }
 {
     match checks::lent_verdict(store, table) {
-        Verdict::Failed(why) => Answer::Refused(why),
-        Verdict::Passed => sound::ask(store, table, list, ask),
+        Err(why) => Answer::Refused(why),
+        Ok(()) => sound::ask(store, table, list, ask),
     }
 }

@@ -13,7 +13,7 @@ ghost use Rattle.engine.specs.Gives.{Gives, GivesCall};
 ghost use Rattle.engine.specs.Sound.{CanMakeWith, CanApply, held_after, CanCount, Done};
 
 use crate::checks::{ask_verdict, change_verdict, clock_verdict};
-use ledger::{Answer, Ask, Call, Change, Verdict};
+use ledger::{Answer, Ask, Call, Change};
 
 // The answer of an accepted open: the floats held after it.
 pub fn accepted(store: &[i32]) -> Answer
@@ -39,8 +39,8 @@ pub fn clock(store: &mut [i32], table: &mut [i16], t: i32) -> Answer
     ensures { Gives (clock_out (words store.old table.old) t) result (words store.new table.new) }
 {
     match clock_verdict(&store[..], t) {
-        Verdict::Failed(why) => Answer::Refused(why),
-        Verdict::Passed => make_step(store, table, t),
+        Err(why) => Answer::Refused(why),
+        Ok(()) => make_step(store, table, t),
     }
 }
 
@@ -86,8 +86,8 @@ pub fn change(store: &mut [i32], table: &mut [i16], c: Change) -> Answer
 {
     let left = retiring::left_at(&store[..], c.time());
     match change_verdict(&store[..], c, left) {
-        Verdict::Failed(why) => Answer::Refused(why),
-        Verdict::Passed => make_change(store, table, c, left),
+        Err(why) => Answer::Refused(why),
+        Ok(()) => make_change(store, table, c, left),
     }
 }
 
@@ -97,8 +97,8 @@ pub fn ask(store: &[i32], table: &[i16], list: &mut [u16], ask: Ask) -> Answer
     ensures { GivesList (ask_out (words store.now table.now) ask list.old) result list.new }
 {
     match ask_verdict(store, ask) {
-        Verdict::Failed(why) => Answer::Refused(why),
-        Verdict::Passed => asking::ask_sound(store, table, list, ask),
+        Err(why) => Answer::Refused(why),
+        Ok(()) => asking::ask_sound(store, table, list, ask),
     }
 }
 

@@ -1,6 +1,7 @@
 -- The ledger opened at 0 accepts a fleet's floats one after the other. Each comes at time 0, so that the clock step before it keeps what is held; its
 -- id is above those that are held; and there is room for it.
 -- Assumes nothing.
+use Rattle.std.specs.Prelude.{Result, Ok}
 use mathlib.Core.Path.{◌≡◌, refl, sym, ap, ap₂, ◌∙◌}
 use mathlib.Core.Bool.{true, false, cond, not, ◌||◌}
 use mathlib.Core.List.{List, [], ◌∷◌, map}
@@ -24,8 +25,6 @@ use Rattle.ledger.specs.Calls.{Fed, answer_by, checks_of, changed_by, answer_to,
 use Rattle.ledger.specs.declared.Answer.{Answer}
 use Rattle.ledger.specs.declared.Answer.TheVariants.{Accepted}
 use Rattle.ledger.specs.declared.Refusal.TheVariants.{BadTime, BadNumber, AlreadyHeld, Full}
-use Rattle.ledger.specs.declared.Verdict.{Verdict}
-use Rattle.ledger.specs.declared.Verdict.TheVariants.{Passed}
 use Rattle.ledger.proofs.MachineLaws.{same_report, moved_length, moved_held_lem, moved_from}
 use Rattle.ledger.proofs.RefusalsLaws.{passes, none_fails}
 use Rattle.generator.specs.Generator.{steps}
@@ -33,6 +32,7 @@ use Rattle.fleets.specs.Fleets.{draws, float_of, floats_after}
 use Rattle.fleets.specs.Claims.{fed_with, accepted_after, LedgerAcceptsFleets}
 use Rattle.fleets.proofs.InputsLaws.{ranges}
 use Rattle.fleets.proofs.FleetsLaws.{written_after, float-in_range}
+use Rattle.ledger.specs.declared.Refusal.{Refusal}
 
 -- ---- one float
 
@@ -102,7 +102,7 @@ module _ (k h : ℕ) (l : Ledger) (f : Filled k h l) (room : ℕ) (r : Report) (
   not_held : is_held r.id kept ≡ false
   not_held = ap (λ (id : ℤ). is_held id kept) n.id_is ∙ kept_above (suc k) (omega arith)
 
-  none_fails_here : Passed ≡ first_to_fail (checks_of l fed.call room)
+  none_fails_here : Ok tt ≡ first_to_fail (checks_of l fed.call room)
   unfolding stepped moved_on keeping
   none_fails_here =
       passes _ BadTime _ _ in_time_lem
@@ -111,7 +111,7 @@ module _ (k h : ℕ) (l : Ledger) (f : Filled k h l) (room : ℕ) (r : Report) (
 
   answered : answer_to l fed ≡ Accepted (suc h)
   unfolding answer_to changed_by stepped moved_on keeping with_report
-  answered = ap (λ (v : Verdict). answer_by v (Accepted (suc (length kept)))) (sym none_fails_here) ∙ ap (λ (m : ℕ). Accepted (suc m)) kept_many
+  answered = ap (λ (v : Result (Unit {0}) Refusal). answer_by v (Accepted (suc (length kept)))) (sym none_fails_here) ∙ ap (λ (m : ℕ). Accepted (suc m)) kept_many
 
   replied : reply_to l fed ≡ record { answer = Accepted (suc h); ids = [] }
   unfolding reply_to ids_of

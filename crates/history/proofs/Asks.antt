@@ -1,6 +1,7 @@
 -- An ask of the index answers as the ledger does, where the words match the ledger: the same choice in each live phase, the same cells and useful
 -- cells counted, the same ids.
 -- Assumes nothing.
+use Rattle.std.specs.Prelude.{Result, Ok, Err}
 use mathlib.Core.Path.{◌≡◌, refl, sym, ap, ap₂, ◌∙◌, subst}
 use mathlib.Core.Bool.{Bool, true, false, cond}
 use mathlib.Core.List.Memᴰ
@@ -41,8 +42,6 @@ use Rattle.ledger.specs.declared.Answer.{Answer}
 use Rattle.ledger.specs.declared.Answer.TheVariants.{Listed}
 use Rattle.ledger.specs.declared.Ask.{Ask}
 use Rattle.ledger.specs.declared.Call.TheVariants as Call
-use Rattle.ledger.specs.declared.Verdict.{Verdict}
-use Rattle.ledger.specs.declared.Verdict.TheVariants.{Passed, Failed}
 use Rattle.ledger.proofs.MachineIdsLaws.{put_comm}
 use Rattle.ledger.proofs.MachineSummedLaws.{summed_same}
 use Rattle.ledger.proofs.RefusalsLaws.{same_before, before_passed, ask_good}
@@ -63,6 +62,7 @@ use Rattle.history.proofs.HeldRecords.{records_from}
 use Rattle.history.proofs.Sound.{matching_sound}
 use Rattle.history.proofs.UsefulCells.{useful_from, from_useful}
 use Rattle.history.proofs.SoundUseful.{useful_counted_lem}
+use Rattle.ledger.specs.declared.Refusal.{Refusal}
 
 -- ---- the records of the held reports
 
@@ -232,11 +232,11 @@ abbrev pub ledger_reply : Answer → List ℕ → Reply
 ledger_reply a ids = record { answer = a; ids = cond (is_accepted a) ids [] }
 
 -- by the verdict: refused, neither lists an id; else the ids written in front are the ids listed
-reply_by : (w : Words) (ask : Ask) (list : List ℕ) (n c u r : ℕ) (ids : List ℕ) (v : Verdict)
-    → (v ≡ Passed → SameNumbers (ids_needed w ask) (cells_counted w ask) (useful_counted w ask) (rounds_counted w ask) n c u r (ids_found w ask) ids)
+reply_by : (w : Words) (ask : Ask) (list : List ℕ) (n c u r : ℕ) (ids : List ℕ) (v : Result (Unit {0}) Refusal)
+    → (v ≡ Ok tt → SameNumbers (ids_needed w ask) (cells_counted w ask) (useful_counted w ask) (rounds_counted w ask) n c u r (ids_found w ask) ids)
     → reply_of (leaving_words (ask_settled v w ask list) w) ≡ ledger_reply (answer_by v (Listed n c u r)) ids
-reply_by w ask list n c u r ids (Failed why) same = refl
-reply_by w ask list n c u r ids Passed same =
+reply_by w ask list n c u r ids (Err why) same = refl
+reply_by w ask list n c u r ids (Ok tt) same =
     let k = same refl in
     let front : take (ids_needed w ask) (ids_found w ask ++ drop (length (ids_found w ask)) list) ≡ ids =
     (λ i. take (k.same_needed i) (k.same_ids i ++ drop (length (k.same_ids i)) list))
@@ -253,10 +253,10 @@ module _ (l : Ledger) (w : Words) (left : Left l w) (ask : Ask) (list : List ℕ
   abbrev checks : List Check
   checks = ask_number_checks l.now ask
 
-  abbrev pub verdict : Verdict
+  abbrev pub verdict : Result (Unit {0}) Refusal
   verdict = first_to_fail (ask_checks l.now ask (length list) (length (ids_listed l ask)))
 
-  passed_numbers : first_to_fail checks ≡ Passed → FitAsk l.now ask.query
+  passed_numbers : first_to_fail checks ≡ Ok tt → FitAsk l.now ask.query
   passed_numbers p = let good = ask_good l.now ask p in fit_ask l.now ask good.good_time good.good_numbers
 
   -- the ids needed matter only where the checks before pass
@@ -268,13 +268,13 @@ module _ (l : Ledger) (w : Words) (left : Left l w) (ask : Ask) (list : List ℕ
       (λ p. ap (λ (n : ℕ). first_to_fail (room_checks (length list) n)) (needed_agrees l w left ask (passed_numbers p)))
 
   -- an ask that passed its checks
-  pub passed_fit : verdict ≡ Passed → FitAsk l.now ask.query
+  pub passed_fit : verdict ≡ Ok tt → FitAsk l.now ask.query
   passed_fit p = passed_numbers (before_passed checks (room_checks (length list) (length (ids_listed l ask))) p)
 
   pub ask_agrees : reply_to w (asking ask list) ≡ L.reply_to l (fed (asking ask list))
   unfolding call_out ask_out L.answer_to
   ask_agrees =
-      ap (λ (v : Verdict). reply_of (leaving_words (ask_settled v w ask list) w)) same_verdict
+      ap (λ (v : Result (Unit {0}) Refusal). reply_of (leaving_words (ask_settled v w ask list) w)) same_verdict
       ∙ reply_by w ask list (length (ids_listed l ask)) (cells_read l ask) (useful_read l ask) (rounds_taken l ask) (ids_listed l ask) verdict
       (λ p.
       let fit = passed_fit p in

@@ -1,6 +1,7 @@
 -- S9 and S10 of specs/Claims.antt, proved: every answer of every list is the ledger's, and at every point two asks that differ in the method alone
 -- share ids and useful cells, and read the ledger's choice, with the methods nested.
 -- Assumes nothing.
+use Rattle.std.specs.Prelude.{Ok}
 use mathlib.Core.Path.{◌≡◌, refl, sym, ap, ◌∙◌}
 use mathlib.Core.List.{List}
 use Prim.Native.Nat.{ℕ}
@@ -22,7 +23,6 @@ use Rattle.ledger.specs.Calls.{Reply, answer_by}
 use Rattle.ledger.specs.declared.Answer.{Answer}
 use Rattle.ledger.specs.declared.Answer.TheVariants.{Listed}
 use Rattle.ledger.specs.declared.Ask.{Ask}
-use Rattle.ledger.specs.declared.Verdict.TheVariants.{Passed}
 use Rattle.ledger.proofs.MachineSummedLaws.{summed_same}
 use Rattle.ledger.proofs.RefusalsLaws.{passed_of}
 use Rattle.asking.proofs.AskingPhasesLaws.{FitAsk}
@@ -50,7 +50,7 @@ module _ (l : Ledger) (w : Words) (left : Left l w) where
     reply_by = ask_agrees l w left ask list ∙ ledger_reply_lem l ask list
 
     -- an accepted ask passed its checks
-    passed : verdict l w left ask list ≡ Passed
+    passed : verdict l w left ask list ≡ Ok tt
     passed = passed_of (verdict l w left ask list) listed (sym (ap (λ (k : Reply). is_accepted k.answer) reply_by) ∙ accepts)
 
     reply_is : reply_to w (asking ask list) ≡ record { answer = listed; ids = ids_listed l ask }

@@ -1,5 +1,6 @@
 -- The floats held are the accepted adds less the accepted drops less the retirements, after every list of calls.
 -- Assumes nothing.
+use Rattle.std.specs.Prelude.{Ok}
 use mathlib.Core.Path.{◌≡◌, refl}
 use mathlib.Core.Bool.{Bool, true, false, cond, not}
 use mathlib.Core.List.{List, [], ◌∷◌}
@@ -20,13 +21,12 @@ use Rattle.ledger.specs.declared.Call.TheVariants as Call
 use Rattle.ledger.specs.declared.Change.{Change}
 use Rattle.ledger.specs.declared.Change.TheVariants as Change
 use Rattle.ledger.specs.declared.Refusal.TheVariants.{BadTime, BadNumber, NotHeld}
-use Rattle.ledger.specs.declared.Verdict.TheVariants.{Passed}
 use Rattle.ledger.proofs.MachineLaws.{moved_length, without_length}
 use Rattle.ledger.proofs.RefusalsLaws.{first_passed, others_passed, passed_of}
 use Rattle.history.specs.Claims.{count_if, accepted_of, silent_at, retires, retirements, HeldAreAddsLessDropsLessRetirements}
 
 -- a change that passed its checks changes the count of floats held by its count
-change_counts : (l : Ledger) (c : Change) → first_to_fail (held_checks c (is_held (id_of c) l.held) (length l.held)) ≡ Passed
+change_counts : (l : Ledger) (c : Change) → first_to_fail (held_checks c (is_held (id_of c) l.held) (length l.held)) ≡ Ok tt
     → length (changed c l).held + count_if (Call.Change c) 0 1 ≡ length l.held + count_if (Call.Change c) 1 0
 unfolding with_report without_id
 change_counts l (Change.Add r) p = omega arith
@@ -57,7 +57,7 @@ stepped_count : (time : ℤ) (l : Ledger) → length (stepped time l).held + sil
 unfolding stepped moved_on keeping
 stepped_count time l = omega (arith, moved_length time (passing (λ h. stays_at time h.report) l.held), parts time l.held)
 
-changes_count : (l : Ledger) (call : Call) (room : ℕ) → first_to_fail (L.checks_of l call room) ≡ Passed
+changes_count : (l : Ledger) (call : Call) (room : ℕ) → first_to_fail (L.checks_of l call room) ≡ Ok tt
     → length (L.changed_by l call).held + count_if call 0 1 + retires l call ≡ length l.held + count_if call 1 0
 unfolding L.changed_by
 changes_count l (Call.Clock t) room p = omega (arith, stepped_count t l)

@@ -1,6 +1,7 @@
 -- After an accepted open, at every point of every list of calls, the index's words match the ledger; so every answer in the list is the ledger's,
 -- once each ask answers as the ledger does.
 -- Assumes nothing.
+use Rattle.std.specs.Prelude.{Result, Ok, Err}
 use mathlib.Core.Path.{◌≡◌, refl, sym, ap, ap₂, ◌∙◌}
 use mathlib.Core.Bool.{Bool, true, false, cond}
 use mathlib.Core.List.{List, [], ◌∷◌}
@@ -32,8 +33,6 @@ use Rattle.ledger.specs.declared.Call.{Call}
 use Rattle.ledger.specs.declared.Call.TheVariants as Call
 use Rattle.ledger.specs.declared.Change.{Change}
 use Rattle.ledger.specs.declared.Refusal.TheVariants.{WrongLength, BadTime}
-use Rattle.ledger.specs.declared.Verdict.{Verdict}
-use Rattle.ledger.specs.declared.Verdict.TheVariants.{Passed, Failed}
 use Rattle.ledger.proofs.RefusalsLaws.{first_passed, others_passed}
 use Rattle.engine.specs.Index.{settled, open_out, clock_out, change_out, leaving_list, call_out}
 use Rattle.engine.specs.Checks.{wrong_length, lent_checks, open_checks, checks_of_change}
@@ -46,6 +45,7 @@ use Rattle.history.proofs.Relation.{records_of_held, TableMatches, Left}
 use Rattle.history.proofs.GoodKept.{opened_good}
 use Rattle.history.proofs.Sound.{matching_sound, count_is}
 use Rattle.history.proofs.Steps.{clock_same, clock_left, checks, change_same, change_left}
+use Rattle.ledger.specs.declared.Refusal.{Refusal}
 
 -- ---- open
 
@@ -90,12 +90,12 @@ module _ (table : List ℤ) (sized : length table ≡ table_words) where
       }
 
 -- an open that was accepted passed its checks
-settled_passed : (v : Verdict) (w w' : Words) → is_accepted (settled v w w').answer ≡ true → v ≡ Passed
-settled_passed Passed w w' h = refl
-settled_passed (Failed r) w w' h = absurd (true_false (sym h))
+settled_passed : (v : Result (Unit {0}) Refusal) (w w' : Words) → is_accepted (settled v w w').answer ≡ true → v ≡ Ok tt
+settled_passed (Ok tt) w w' h = refl
+settled_passed (Err r) w w' h = absurd (true_false (sym h))
 
 module _ (w : Words) (time : ℤ) (accepted : is_accepted (open_out w time).answer ≡ true) where
-  passed : first_to_fail (open_checks w time) ≡ Passed
+  passed : first_to_fail (open_checks w time) ≡ Ok tt
   unfolding open_out
   passed = settled_passed (first_to_fail (open_checks w time)) w (Index.opened time w) accepted
 
@@ -119,17 +119,17 @@ module _ (w : Words) (time : ℤ) (accepted : is_accepted (open_out w time).answ
 
 -- by the verdict: refused, both stay; else both change, and as many floats are held in both
 module _ (l l' : Ledger) (w w' : Words) where
-  left_by : Left l w → (v : Verdict) → (v ≡ Passed → Left l' w') → Left (cond (is_accepted (answer_by v (Accepted (length l'.held)))) l' l) (settled v w w').words
-  left_by left Passed changed = changed refl
-  left_by left (Failed r) changed = left
+  left_by : Left l w → (v : Result (Unit {0}) Refusal) → (v ≡ Ok tt → Left l' w') → Left (cond (is_accepted (answer_by v (Accepted (length l'.held)))) l' l) (settled v w w').words
+  left_by left (Ok tt) changed = changed refl
+  left_by left (Err r) changed = left
 
-  reply_by : (list : List ℕ) (v : Verdict) → (v ≡ Passed → Left l' w')
+  reply_by : (list : List ℕ) (v : Result (Unit {0}) Refusal) → (v ≡ Ok tt → Left l' w')
       → reply_of (leaving_list (settled v w w') list)
       ≡ record { answer = answer_by v (Accepted (length l'.held)); ids = cond (is_accepted (answer_by v (Accepted (length l'.held)))) [] [] }
-  reply_by list Passed changed =
+  reply_by list (Ok tt) changed =
       let left = changed refl in
       ap (λ (n : ℕ). reply_of (leaving_list (record { answer = Accepted n; words = w' }) list)) (count_is l' w' left.good left.matches)
-  reply_by list (Failed r) changed = refl
+  reply_by list (Err r) changed = refl
 
 module _ (l : Ledger) (w : Words) (left : Left l w) (list : List ℕ) where
   -- the checks of the lent words are passed

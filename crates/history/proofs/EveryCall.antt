@@ -1,5 +1,6 @@
 -- The claims of specs/EveryCall.antt, proved.
 -- Assumes nothing.
+use Rattle.std.specs.Prelude.{Result, Ok, Err}
 use mathlib.Core.Path.{◌≡◌, refl, sym, ap, ◌∙◌}
 use mathlib.Core.Bool.{Bool, true, false, not}
 use mathlib.Core.List.{List, [], ◌∷◌, ◌++◌}
@@ -27,8 +28,6 @@ use Rattle.ledger.specs.declared.Call.TheVariants as Call
 use Rattle.ledger.specs.declared.Change.{Change}
 use Rattle.ledger.specs.declared.Change.TheVariants as Change
 use Rattle.ledger.specs.declared.Refusal.TheVariants.{Unsound, WrongLength, ListTooShort}
-use Rattle.ledger.specs.declared.Verdict.{Verdict}
-use Rattle.ledger.specs.declared.Verdict.TheVariants.{Passed, Failed}
 use Rattle.ledger.proofs.MachineSummedLaws.{summed_same, summed_none}
 use Rattle.ledger.proofs.Claims.{refusals_are_plain}
 use Rattle.ledger.proofs.RefusalsLaws.{first_passed, others_passed, passed_before, before_passed, GoodAsk, ask_good, good_passes}
@@ -44,6 +43,7 @@ use Rattle.engine.proofs.ChecksLaws.{sound_lent}
 use Rattle.history.specs.Index.{ids_written}
 use Rattle.history.specs.EveryCall.{EveryCallChecksInOrder, CountsOfAsk, ListIsWritten, held_in, CountsAreExact, ChoiceRoundsAreMethodTwos, RoundsAreMethodTwos, RefusedAskIsEmpty}
 use Rattle.history.proofs.SoundUseful.{useful_counted_lem}
+use Rattle.ledger.specs.declared.Refusal.{Refusal}
 
 -- ---- the order of the checks
 
@@ -65,19 +65,19 @@ every_call_checks_in_order w = record { open_order = λ time. refl; call_order =
 
 -- ---- an ask by its verdict
 
-settled_passed : (v : Verdict) (w : Words) (ask : Ask) (list : List ℕ) → is_accepted (ask_settled v w ask list).answer ≡ true → v ≡ Passed
-settled_passed Passed w ask list h = refl
-settled_passed (Failed r) w ask list h = absurd (true_false (sym h))
+settled_passed : (v : Result (Unit {0}) Refusal) (w : Words) (ask : Ask) (list : List ℕ) → is_accepted (ask_settled v w ask list).answer ≡ true → v ≡ Ok tt
+settled_passed (Ok tt) w ask list h = refl
+settled_passed (Err r) w ask list h = absurd (true_false (sym h))
 
-settled_stays : (v : Verdict) (w : Words) (ask : Ask) (list : List ℕ) → is_accepted (ask_settled v w ask list).answer ≡ false → (ask_settled v w ask list).list ≡ list
-settled_stays Passed w ask list h = absurd (true_false h)
-settled_stays (Failed r) w ask list h = refl
+settled_stays : (v : Result (Unit {0}) Refusal) (w : Words) (ask : Ask) (list : List ℕ) → is_accepted (ask_settled v w ask list).answer ≡ false → (ask_settled v w ask list).list ≡ list
+settled_stays (Ok tt) w ask list h = absurd (true_false h)
+settled_stays (Err r) w ask list h = refl
 
 room_accepts : (w : Words) (ask : Ask) (list : List ℕ) (room needed : ℕ) → is_accepted (ask_settled (first_to_fail (room_checks room needed)) w ask list).answer ≡ not (ltb room needed)
 unfolding first_to_fail
 room_accepts w ask list room needed = go (ltb room needed)
   where
-    go : (b : Bool) → is_accepted (ask_settled (unless b (ListTooShort needed) Passed) w ask list).answer ≡ not b
+    go : (b : Bool) → is_accepted (ask_settled (unless b (ListTooShort needed) (Ok tt)) w ask list).answer ≡ not b
     go true = refl
     go false = refl
 
@@ -85,15 +85,15 @@ module _ (w : Words) (ask : Ask) (list : List ℕ) where
   abbrev room : ℕ
   room = length list
 
-  abbrev verdict : Verdict
+  abbrev verdict : Result (Unit {0}) Refusal
   verdict = first_to_fail (checks_of w (Call.Ask ask) room)
 
   module _ (h : is_accepted (ask_out w ask list).answer ≡ true) where
-    passed : verdict ≡ Passed
+    passed : verdict ≡ Ok tt
     unfolding ask_out
     passed = settled_passed verdict w ask list h
 
-    after_lent : first_to_fail (ask_checks (time_in w) ask room (ids_needed w ask)) ≡ Passed
+    after_lent : first_to_fail (ask_checks (time_in w) ask room (ids_needed w ask)) ≡ Ok tt
     after_lent =
         let asked = ask_checks (time_in w) ask room (ids_needed w ask) in
         others_passed (unsound w) Unsound asked (others_passed (wrong_length w) WrongLength (check (unsound w) Unsound ∷ asked) passed)
@@ -106,9 +106,9 @@ module _ (w : Words) (ask : Ask) (list : List ℕ) where
     pub good_ask : GoodAsk (time_in w) ask
     good_ask = ask_good (time_in w) ask (before_passed (ask_number_checks (time_in w) ask) (room_checks room (ids_needed w ask)) after_lent)
 
-    out_is : ask_out w ask list ≡ ask_settled Passed w ask list
+    out_is : ask_out w ask list ≡ ask_settled (Ok tt) w ask list
     unfolding ask_out
-    out_is = ap (λ (v : Verdict). ask_settled v w ask list) passed
+    out_is = ap (λ (v : Result (Unit {0}) Refusal). ask_settled v w ask list) passed
 
     exact : (ids_found w ask ≡ ids_inside ask.query (records_in w)) × (ids_needed w ask ≡ length (ids_inside ask.query (records_in w)))
     exact = list_is_exact w sound_here ask good_ask.good_time good_ask.good_numbers
@@ -141,7 +141,7 @@ module _ (w : Words) (ask : Ask) (list : List ℕ) where
   accepted_with_room sound time window numbers =
       let checks = ask_number_checks (time_in w) ask in
       let passed = good_passes (time_in w) ask (record { good_time = time; good_window = window; good_numbers = numbers }) in
-      ap (λ (v : Verdict). is_accepted (ask_settled v w ask list).answer)
+      ap (λ (v : Result (Unit {0}) Refusal). is_accepted (ask_settled v w ask list).answer)
       (sym (passed_before checks (room_checks room (ids_needed w ask)) passed ∙ sound_lent w sound (ask_checks (time_in w) ask room (ids_needed w ask))))
       ∙ room_accepts w ask list room (ids_needed w ask)
       ∙ ap (λ (n : ℕ). not (ltb room n)) (list_is_exact w sound ask time numbers).1

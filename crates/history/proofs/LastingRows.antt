@@ -1,5 +1,6 @@
 -- A row never narrows while its phase lives, over every list of calls, of the index's words and of the ledger.
 -- Assumes nothing.
+use Rattle.std.specs.Prelude.{Result, Ok, Err}
 use mathlib.Core.Path.{◌≡◌, refl, ap, ◌∙◌, subst}
 use mathlib.Core.Bool.{Bool, true, false, cond}
 use mathlib.Core.List.Memᴰ
@@ -46,8 +47,6 @@ use Rattle.ledger.specs.declared.Call.{Call}
 use Rattle.ledger.specs.declared.Call.TheVariants as Call
 use Rattle.ledger.specs.declared.Change.{Change}
 use Rattle.ledger.specs.declared.Change.TheVariants as Change
-use Rattle.ledger.specs.declared.Verdict.{Verdict}
-use Rattle.ledger.specs.declared.Verdict.TheVariants.{Passed, Failed}
 use Rattle.ledger.specs.declared.Refusal.TheVariants.{WrongLength, Unsound, BadTime}
 use Rattle.ledger.proofs.MachineLaws.{speeds_append, speeds_live}
 use Rattle.ledger.proofs.RefusalsLaws.{first_passed, others_passed, passed_of}
@@ -58,6 +57,7 @@ use Rattle.engine.proofs.ChecksLaws.{right_lengths}
 use Rattle.history.specs.Index.{LentCall, next, after}
 use Rattle.history.specs.Claims.{phase_now, RowsNeverNarrow, LedgerRowsNeverNarrow}
 use Rattle.history.proofs.Steps.{step_later}
+use Rattle.ledger.specs.declared.Refusal.{Refusal}
 
 -- ---- rows of a table that is widened
 
@@ -190,11 +190,11 @@ change_lasts w (Change.Drop id t) sized = take_lasts w id
 settled_lasts :
     (w w' : Words) (time : ℤ) (more : List Check)
     → (length w.table ≡ table_words → le_z (time_in w) time ≡ true → Lasts w w')
-    → (v : Verdict)
+    → (v : Result (Unit {0}) Refusal)
     → first_to_fail (lent_checks w (check (bad_step_time (time_in w) time) BadTime ∷ more)) ≡ v
     → Lasts w (settled v w w').words
-settled_lasts w w' time more lasts (Failed r) e = lasts_refl w
-settled_lasts w w' time more lasts Passed e =
+settled_lasts w w' time more lasts (Err r) e = lasts_refl w
+settled_lasts w w' time more lasts (Ok tt) e =
     let timed = check (bad_step_time (time_in w) time) BadTime ∷ more in
     let odd = check (unsound w) Unsound ∷ timed in
     let long = right_lengths w (first_passed (wrong_length w) WrongLength odd e) in
@@ -274,7 +274,7 @@ changed_lasts l (Change.Add r) = with_report_lasts r l
 changed_lasts l (Change.Report r) = ledger_trans (without_lasts r.id l) (with_report_lasts r (without_id r.id l))
 changed_lasts l (Change.Drop id t) = without_lasts id l
 
-passed_lasts : (l : Ledger) (call : Call) (room : ℕ) → first_to_fail (L.checks_of l call room) ≡ Passed → LedgerLasts l (L.changed_by l call)
+passed_lasts : (l : Ledger) (call : Call) (room : ℕ) → first_to_fail (L.checks_of l call room) ≡ Ok tt → LedgerLasts l (L.changed_by l call)
 unfolding L.changed_by
 passed_lasts l (Call.Clock t) room p = stepped_lasts t l (step_later l.now t (first_passed (bad_step_time l.now t) BadTime [] p))
 passed_lasts l (Call.Change c) room p =

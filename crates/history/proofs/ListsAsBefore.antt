@@ -1,6 +1,7 @@
 -- The claims of specs/ListsAsBefore.antt, proved. All that the checks, the value and the ids take from what is held is a function of the reports alone; so
 -- ledgers that share time and reports share them, and a call leaves them sharing both.
 -- Assumes nothing.
+use Rattle.std.specs.Prelude.{Result, Ok, Err}
 use mathlib.Core.Path.{◌≡◌, refl, sym, ap, ap₂, ◌∙◌}
 use mathlib.Core.Bool.{Bool, true, false, cond}
 use mathlib.Core.List.{List, [], ◌∷◌, map}
@@ -26,14 +27,13 @@ use Rattle.ledger.specs.declared.Call.{Call}
 use Rattle.ledger.specs.declared.Call.TheVariants as Call
 use Rattle.ledger.specs.declared.Change.{Change}
 use Rattle.ledger.specs.declared.Change.TheVariants as Change
-use Rattle.ledger.specs.declared.Verdict.{Verdict}
-use Rattle.ledger.specs.declared.Verdict.TheVariants.{Passed, Failed}
 use Rattle.ledger.proofs.MachineLaws.{same_report}
 use Rattle.ledger.proofs.Claims.{refusals_are_plain}
 use Rattle.history.specs.Index.{fed_all}
 use Rattle.history.specs.ListsAsBefore.{Told, told, reports_of, SameReports, SameReportsSameLists, Placing, placed_anew, replies_by}
 use Rattle.history.specs.ListsAsBefore.{ListsComeOutAsBefore, IndexListsComeOutAsBefore}
 use Rattle.history.proofs.Claims.{every_history_is_the_ledgers}
+use Rattle.ledger.specs.declared.Refusal.{Refusal}
 
 -- ---- what is taken from the floats held, by their reports
 
@@ -103,13 +103,13 @@ module _ (xs ys : List Held) (e : reports_of xs ≡ reports_of ys) where
 
 -- ---- a call on two ledgers that share time and reports
 
-abbrev told_by : Verdict → Answer → List ℕ → Told
+abbrev told_by : Result (Unit {0}) Refusal → Answer → List ℕ → Told
 told_by v a ids = told (record { answer = answer_by v a; ids = cond (is_accepted (answer_by v a)) ids [] })
 
 -- cells read, useful cells and rounds are not told
-not_told : (v : Verdict) (n c u r c' u' r' : ℕ) (ids : List ℕ) → told_by v (Listed n c u r) ids ≡ told_by v (Listed n c' u' r') ids
-not_told Passed n c u r c' u' r' ids = refl
-not_told (Failed e) n c u r c' u' r' ids = refl
+not_told : (v : Result (Unit {0}) Refusal) (n c u r c' u' r' : ℕ) (ids : List ℕ) → told_by v (Listed n c u r) ids ≡ told_by v (Listed n c' u' r') ids
+not_told (Ok tt) n c u r c' u' r' ids = refl
+not_told (Err e) n c u r c' u' r' ids = refl
 
 module _ (l m : Ledger) (same : SameReports l m) where
   step_shared : (time : ℤ) → reports_of (stepped time l).held ≡ reports_of (stepped time m).held

@@ -1,5 +1,6 @@
 -- The claims of specs/Silence.antt, proved. What a step keeps is not silent at its time, and neither is a float that reports at that time.
 -- Assumes nothing.
+use Rattle.std.specs.Prelude.{Result, Ok, Err}
 use mathlib.Core.Path.{◌≡◌, refl, sym, ap, ap₂, ◌∙◌}
 use mathlib.Core.Bool.{Bool, true, false, cond, not}
 use mathlib.Core.List.{List, [], ◌∷◌}
@@ -34,8 +35,6 @@ use Rattle.ledger.specs.declared.Call.{Call}
 use Rattle.ledger.specs.declared.Call.TheVariants as Call
 use Rattle.ledger.specs.declared.Change.{Change}
 use Rattle.ledger.specs.declared.Change.TheVariants as Change
-use Rattle.ledger.specs.declared.Verdict.{Verdict}
-use Rattle.ledger.specs.declared.Verdict.TheVariants.{Passed, Failed}
 use Rattle.ledger.proofs.MachineLaws.{same_report, moved_from, without_member}
 use Rattle.engine.specs.Checks.{checks_of}
 use Rattle.engine.specs.Index as Engine
@@ -45,6 +44,7 @@ use Rattle.history.specs.Silence.{steps, none_silent, none_silent_in, StepLeaves
 use Rattle.history.proofs.Relation.{records_of_held}
 use Rattle.history.proofs.HeldRecords.{records_from}
 use Rattle.history.proofs.Points.{point_left}
+use Rattle.ledger.specs.declared.Refusal.{Refusal}
 
 -- a float that reports at a time is not silent then
 just_sent : (time t : ℤ) → t ≡ time → not (is_silent time t) ≡ true
@@ -145,9 +145,9 @@ index_changed (Change.Add r) w e h = index_placed r w e h
 index_changed (Change.Report r) w e h = index_placed r (Index.taken_out r.id w) (e ∙ sym (taken_time r.id w)) (index_taken r.id w h)
 index_changed (Change.Drop id t) w e h = index_taken id w h
 
-settled_stays : (v : Verdict) (w w' : Words) → none_silent_in w' ≡ true → is_accepted (settled v w w').answer ≡ true → none_silent_in (settled v w w').words ≡ true
-settled_stays Passed w w' h a = h
-settled_stays (Failed r) w w' h a = absurd (true_false (sym a))
+settled_stays : (v : Result (Unit {0}) Refusal) (w w' : Words) → none_silent_in w' ≡ true → is_accepted (settled v w w').answer ≡ true → none_silent_in (settled v w w').words ≡ true
+settled_stays (Ok tt) w w' h a = h
+settled_stays (Err r) w w' h a = absurd (true_false (sym a))
 
 pub index_step_leaves_none_silent : IndexStepLeavesNoneSilent
 unfolding call_out clock_out change_out

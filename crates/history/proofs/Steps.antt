@@ -1,6 +1,7 @@
 -- One clock or change, at words that match a good ledger: the index's checks come to the ledger's verdict, and where they are passed the words that it
 -- leaves match the ledger that is left, which is good.
 -- Assumes nothing.
+use Rattle.std.specs.Prelude.{Ok}
 use mathlib.Core.Path.{◌≡◌, refl, sym, ap, ap₂, ◌∙◌, subst}
 use mathlib.Core.Bool.{Bool, true, false, not}
 use mathlib.Core.List.{List, [], ◌∷◌}
@@ -36,7 +37,6 @@ use Rattle.ledger.specs.Machine.{Ledger, Held, is_held, moved_held, keeping, mov
 use Rattle.ledger.specs.declared.Change.{Change}
 use Rattle.ledger.specs.declared.Change.TheVariants as Change
 use Rattle.ledger.specs.declared.Refusal.TheVariants.{BadTime, BadNumber, AlreadyHeld, NotHeld, Full}
-use Rattle.ledger.specs.declared.Verdict.TheVariants.{Passed}
 use Rattle.ledger.proofs.MachineLaws.{without_length}
 use Rattle.ledger.proofs.RefusalsLaws.{first_passed, others_passed}
 use Rattle.engine.specs.Checks.{checks_of_change}
@@ -171,7 +171,7 @@ module _ (l : Ledger) (w : Words) (left : Left l w) where
   pub clock_same : (t : ℤ) → clock_checks (time_in w) t ≡ clock_checks l.now t
   clock_same t = ap (λ (z : ℤ). clock_checks z t) left.matches.time_is
 
-  pub clock_left : (t : ℤ) → first_to_fail (clock_checks l.now t) ≡ Passed → Left (stepped t l) (Index.stepped t w)
+  pub clock_left : (t : ℤ) → first_to_fail (clock_checks l.now t) ≡ Ok tt → Left (stepped t l) (Index.stepped t w)
   clock_left t p = step_left l w left t (first_passed (bad_step_time l.now t) BadTime [] p)
 
   module _ (c : Change) where
@@ -192,8 +192,8 @@ module _ (l : Ledger) (w : Words) (left : Left l w) where
     abbrev later : List Check
     later = held_checks c (is_held (id_of c) held_then) (length held_then)
 
-    module _ (p : first_to_fail checks ≡ Passed) where
-      numbers : first_to_fail (check (bad_numbers c) BadNumber ∷ later) ≡ Passed
+    module _ (p : first_to_fail checks ≡ Ok tt) where
+      numbers : first_to_fail (check (bad_numbers c) BadNumber ∷ later) ≡ Ok tt
       numbers = others_passed (bad_step_time l.now (time_of c)) BadTime (check (bad_numbers c) BadNumber ∷ later) p
 
       pub then_left : Left (stepped (time_of c) l) (Index.stepped (time_of c) w)
@@ -202,10 +202,10 @@ module _ (l : Ledger) (w : Words) (left : Left l w) where
       pub good_numbers : bad_numbers c ≡ false
       good_numbers = first_passed (bad_numbers c) BadNumber later numbers
 
-      pub later_passed : first_to_fail later ≡ Passed
+      pub later_passed : first_to_fail later ≡ Ok tt
       later_passed = others_passed (bad_numbers c) BadNumber later numbers
 
-  pub change_left : (c : Change) → first_to_fail (checks c) ≡ Passed → Left (changed c (stepped (time_of c) l)) (Engine.changed c (Index.stepped (time_of c) w))
+  pub change_left : (c : Change) → first_to_fail (checks c) ≡ Ok tt → Left (changed c (stepped (time_of c) l)) (Engine.changed c (Index.stepped (time_of c) w))
   unfolding stepped moved_on without_id
   change_left (Change.Add r) p =
       let hs = held_then (Change.Add r) in

@@ -1,6 +1,7 @@
 -- The claims of specs/Windows.antt, proved. A window that passed checks 10 and 4 has its times and its rectangle in order, which is all that "listed
 -- exactly" asks. A window of one time has the timeslice's aim in each phase and lists what the timeslice lists, and its checks come to the same.
 -- Assumes nothing.
+use Rattle.std.specs.Prelude.{Result, Ok, Err}
 use mathlib.Core.Path.{◌≡◌, refl, ap, ◌∙◌}
 use mathlib.Core.Bool.{Bool, true, false, not, cond, ◌||◌}
 use mathlib.Core.List.{List, [], ◌∷◌, ◌++◌}
@@ -37,8 +38,6 @@ use Rattle.ledger.specs.declared.Ask.{Ask}
 use Rattle.ledger.specs.declared.Answer.TheVariants.{Listed}
 use Rattle.ledger.specs.declared.Call.TheVariants as Call
 use Rattle.ledger.specs.declared.Refusal.TheVariants.{BadTime, BadWindow, BadNumber, ListTooShort}
-use Rattle.ledger.specs.declared.Verdict.{Verdict}
-use Rattle.ledger.specs.declared.Verdict.TheVariants.{Passed, Failed}
 use Rattle.asking.specs.Asking.{choice_of, listed_of, found_in, phases_now, ids_needed, ids_found, cells_counted, useful_counted, rounds_counted, ask_settled}
 use Rattle.asking.proofs.AskingPhasesLaws.{fit_ask, rectangle_ordered}
 use Rattle.engine.specs.Index.{ask_out}
@@ -47,6 +46,7 @@ use Rattle.history.specs.Index.{fed}
 use Rattle.history.specs.Claims.{asking}
 use Rattle.history.specs.Windows.{timeslice, window, WindowListsMoments, AcceptedWindowsListMoments, WindowOfOneTimeIsTimeslice}
 use Rattle.history.proofs.EveryCall.{good_ask}
+use Rattle.ledger.specs.declared.Refusal.{Refusal}
 
 -- ---- listed exactly
 
@@ -131,9 +131,9 @@ module _ (method : ℤ) (rect : Rect) (t : ℤ) where
     unfolding ids_found
     same_ids = ap rising (same_found _ (phases_now w short))
 
-    same_settled : (v : Verdict) (list : List ℕ) → ask_settled v w long list ≡ ask_settled v w short list
-    same_settled (Failed r) list = refl
-    same_settled Passed list =
+    same_settled : (v : Result (Unit {0}) Refusal) (list : List ℕ) → ask_settled v w long list ≡ ask_settled v w short list
+    same_settled (Err r) list = refl
+    same_settled (Ok tt) list =
         λ i. record {
           answer = Listed (same_needed i) (same_cells i) (same_useful i) (same_rounds i);
           list = same_ids i ++ drop (length (same_ids i)) list;

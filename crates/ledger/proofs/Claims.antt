@@ -1,6 +1,7 @@
 -- The claims of specs/Claims.antt, proved: the checks stand in their order, the first to fail is given, and a refusal has neither counts nor,
 -- but for 8, a value.
 -- Assumes nothing.
+use Rattle.std.specs.Prelude.{Result, Ok, Err}
 use mathlib.Core.Path.{◌≡◌, refl, sym, ap, ◌∙◌}
 use mathlib.Core.Bool.{Bool, true, false}
 use mathlib.Core.List.Memᴰ
@@ -22,12 +23,8 @@ use Rattle.ledger.specs.Claims.{ChecksStandInOrder, FirstFails, FirstToFailIsGiv
 use Rattle.ledger.specs.declared.Answer.{Answer}
 use Rattle.ledger.specs.declared.Answer.TheVariants.{Accepted, Listed, Refused}
 use Rattle.ledger.specs.declared.Call.{Call}
-use Rattle.ledger.specs.declared.Call.TheVariants as Call
 use Rattle.ledger.specs.declared.Change.{Change}
-use Rattle.ledger.specs.declared.Change.TheVariants as Change
 use Rattle.ledger.specs.declared.Refusal.{Refusal}
-use Rattle.ledger.specs.declared.Verdict.{Verdict}
-use Rattle.ledger.specs.declared.Verdict.TheVariants.{Passed, Failed}
 use Rattle.ledger.specs.declared.Refusal.TheVariants.{WrongLength, Unsound, BadTime, BadWindow, BadNumber, AlreadyHeld, NotHeld, Full, ListTooShort}
 
 -- ---- the order
@@ -54,7 +51,7 @@ first_given :
     (before : List Check) (c : Check) (behind : List Check)
     → ((b : Check) → Memᴰ b before → b.fails ≡ false)
     → c.fails ≡ true
-    → first_to_fail (before ++ c ∷ behind) ≡ Failed c.refusal
+    → first_to_fail (before ++ c ∷ behind) ≡ Err c.refusal
 unfolding first_to_fail
 first_given [] c behind passed failed = ap (λ (t : Bool). unless t c.refusal (first_to_fail behind)) failed
 first_given (b ∷ before) c behind passed failed =
@@ -72,11 +69,11 @@ first_later b e f = record {
 }
 
 -- the refusal of a verdict that fails
-refusal_in : Verdict → Refusal → Refusal
-refusal_in Passed other = other
-refusal_in (Failed r) other = r
+refusal_in : Result (Unit {0}) Refusal → Refusal → Refusal
+refusal_in (Ok tt) other = other
+refusal_in (Err r) other = r
 
-first_from : (cs : List Check) (r : Refusal) → first_to_fail cs ≡ Failed r → (c : Check) × FirstFails c cs × (c.refusal ≡ r)
+first_from : (cs : List Check) (r : Refusal) → first_to_fail cs ≡ Err r → (c : Check) × FirstFails c cs × (c.refusal ≡ r)
 unfolding first_to_fail refusal_in
 first_from [] r e = absurd (not_both refl e)
 first_from (c ∷ cs) r e = go c.fails refl (first_from cs r) e
@@ -84,10 +81,10 @@ first_from (c ∷ cs) r e = go c.fails refl (first_from cs r) e
     go :
         (t : Bool)
         → c.fails ≡ t
-        → (first_to_fail cs ≡ Failed r → (d : Check) × FirstFails d cs × (d.refusal ≡ r))
-        → unless t c.refusal (first_to_fail cs) ≡ Failed r → (d : Check) × FirstFails d (c ∷ cs) × (d.refusal ≡ r)
+        → (first_to_fail cs ≡ Err r → (d : Check) × FirstFails d cs × (d.refusal ≡ r))
+        → unless t c.refusal (first_to_fail cs) ≡ Err r → (d : Check) × FirstFails d (c ∷ cs) × (d.refusal ≡ r)
     go true f later k =
-        (c, record { before = []; behind = cs; checks_are = refl; passed = λ b m. absurd (Memᴰ.not-nil m); failed = f }, ap (λ (v : Verdict). refusal_in v r) k)
+        (c, record { before = []; behind = cs; checks_are = refl; passed = λ b m. absurd (Memᴰ.not-nil m); failed = f }, ap (λ (v : Result (Unit {0}) Refusal). refusal_in v r) k)
     go false f later k = let a = later k in (a.0, first_later c f a.1, a.2)
 
 pub first_to_fail_is_given : FirstToFailIsGiven
@@ -123,8 +120,8 @@ first_place_is_given [] h d m f = absurd (Memᴰ.not-nil m)
 first_place_is_given (c ∷ cs) h d m f =
     go c.fails refl (λ k. first_place_is_given cs (order_rest c cs h) d k f)
   where
-    First : Verdict → Type 0
-    First v = (r : Refusal) × (v ≡ Failed r) × (place_of r ≤ place_of d.refusal)
+    First : Result (Unit {0}) Refusal → Type 0
+    First v = (r : Refusal) × (v ≡ Err r) × (place_of r ≤ place_of d.refusal)
 
     go : (t : Bool) → c.fails ≡ t → (Memᴰ d cs → First (first_to_fail cs)) → First (unless t c.refusal (first_to_fail cs))
     go true e later = (

@@ -1,7 +1,7 @@
 -- The ledger's calls after an open: what each answers and what it leaves. Document 01, "The plain ledger" and "What a call gives back when it
 -- declines", refusals from 3 on. The ledger is fed each call's name and numbers, and of an ask's answer list its length alone.
 -- Assumes nothing.
-use Rattle.std.specs.Prelude.{cond, List, [], ◌∷◌, ℕ, ℤ, length}
+use Rattle.std.specs.Prelude.{cond, List, [], ◌∷◌, ℕ, ℤ, length, Result, Ok, Err}
 use Rattle.grid.specs.Reports.{rect_of}
 use Rattle.grid.specs.declared.When.TheVariants.{At, During}
 use Rattle.ledger.specs.Answers.{is_accepted}
@@ -11,10 +11,8 @@ use Rattle.ledger.specs.declared.Answer.{Answer}
 use Rattle.ledger.specs.declared.Answer.TheVariants.{Accepted, Listed, Refused}
 use Rattle.ledger.specs.declared.Ask.{Ask}
 use Rattle.ledger.specs.declared.Call.{Call}
-use Rattle.ledger.specs.declared.Call.TheVariants as Call
 use Rattle.ledger.specs.declared.Refusal.TheVariants.{BadTime}
-use Rattle.ledger.specs.declared.Verdict.{Verdict}
-use Rattle.ledger.specs.declared.Verdict.TheVariants.{Passed, Failed}
+use Rattle.ledger.specs.declared.Refusal.{Refusal}
 
 -- the timeslice ask of a call's six numbers: the method, the asked time, the low corner, the high one
 abbrev pub ask_of : ℤ → ℤ → ℤ → ℤ → ℤ → ℤ → Ask
@@ -37,9 +35,9 @@ pub record Reply : Type 0 where
   pub ids : List ℕ
 
 -- the answer: a refusal by the first check to fail, else that of an accepted call
-abbrev pub answer_by : Verdict → Answer → Answer
-answer_by (Failed r) accepted = Refused r
-answer_by Passed accepted = accepted
+abbrev pub answer_by : Result (Unit {0}) Refusal → Answer → Answer
+answer_by (Err r) accepted = Refused r
+answer_by (Ok tt) accepted = accepted
 
 -- ---- the checks of each call, in their order, what it leaves where none fails, and its answer then
 

@@ -1,7 +1,7 @@
 -- What is claimed of refusals: document 01, "What a call gives back when it declines", its first two sentences, with 10 right after 3
 -- (document 02, A3), and the rule on values.
 -- Assumes nothing.
-use Rattle.std.specs.Prelude.{◌≡◌, true, false, ℕ, ◌≤◌, eqb, ℤ}
+use Rattle.std.specs.Prelude.{◌≡◌, true, false, ℕ, ◌≤◌, eqb, ℤ, Err}
 use mathlib.Core.List.{List, ◌∷◌, ◌++◌, Memᴰ}
 use Rattle.ledger.specs.Answers.{number_of, value_of, no_counts, counts_of, is_accepted}
 use Rattle.ledger.specs.Refusals.{Check, first_to_fail, place_of, in_check_order}
@@ -10,7 +10,6 @@ use Rattle.ledger.specs.Calls.{open_checks, checks_of}
 use Rattle.ledger.specs.declared.Answer.{Answer}
 use Rattle.ledger.specs.declared.Call.{Call}
 use Rattle.ledger.specs.declared.Refusal.{Refusal}
-use Rattle.ledger.specs.declared.Verdict.TheVariants.{Failed}
 
 -- checks run in number order, 10 right after 3 (S15, A3): those of open and of each later call stand in it
 abbrev pub ChecksStandInOrder : Type 0
@@ -28,8 +27,8 @@ pub record FirstFails (c : Check) (cs : List Check) : Type 0 where
 
 -- the first to fail is given, and a refusal is given only then (S2)
 pub record GivesTheFirst (cs : List Check) : Type 0 where
-  pub given : (c : Check) → FirstFails c cs → first_to_fail cs ≡ Failed c.refusal
-  pub only_then : (r : Refusal) → first_to_fail cs ≡ Failed r → (c : Check) × FirstFails c cs × (c.refusal ≡ r)
+  pub given : (c : Check) → FirstFails c cs → first_to_fail cs ≡ Err c.refusal
+  pub only_then : (r : Refusal) → first_to_fail cs ≡ Err r → (c : Check) × FirstFails c cs × (c.refusal ≡ r)
 
 abbrev pub FirstToFailIsGiven : Type 0
 FirstToFailIsGiven = (cs : List Check) → GivesTheFirst cs
@@ -42,7 +41,7 @@ FirstPlaceIsGiven =
     → (c : Check)
     → Memᴰ c cs
     → c.fails ≡ true
-    → (r : Refusal) × (first_to_fail cs ≡ Failed r) × (place_of r ≤ place_of c.refusal)
+    → (r : Refusal) × (first_to_fail cs ≡ Err r) × (place_of r ≤ place_of c.refusal)
 
 -- number 0 is that of an accepted call; a refused one has no counts, and every number but 8 returns 0 (S2)
 pub record RefusalIsPlain (a : Answer) : Type 0 where

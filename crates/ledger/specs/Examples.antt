@@ -12,7 +12,6 @@ use Rattle.ledger.specs.Machine.{Ledger, Held, Placement, opened}
 use Rattle.ledger.specs.Calls.{Fed, Reply, after, answer_to}
 use Rattle.ledger.specs.declared.Call.TheVariants as Call
 use Rattle.ledger.specs.declared.Change.{Change}
-use Rattle.ledger.specs.declared.Change.TheVariants as Change
 use Rattle.ledger.specs.declared.Answer.{Answer}
 use Rattle.ledger.specs.declared.Answer.TheVariants.{Accepted, Listed, Refused}
 use Rattle.ledger.specs.declared.Refusal.TheVariants.{BadTime, BadNumber, AlreadyHeld, NotHeld, ListTooShort}

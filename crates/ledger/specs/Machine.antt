@@ -17,7 +17,6 @@ use Rattle.methods.specs.Aims.{aim_in}
 use Rattle.methods.specs.Methods.{Rows, Choice, choice}
 use Rattle.ledger.specs.declared.Ask.{Ask}
 use Rattle.ledger.specs.declared.Change.{Change}
-use Rattle.ledger.specs.declared.Change.TheVariants as Change
 
 -- a held report, and the phase in which its float is placed
 pub record Held : Type 0 where

@@ -2,7 +2,7 @@
 -- 10 right after 3, and the first to fail is given.
 -- The index and the ledger have these lists of checks in common; what is held, and the ids that an ask needs, each says by itself.
 -- Assumes nothing.
-use Rattle.std.specs.Prelude.{Bool, true, false, ◌&&◌, ◌||◌, not, List, [], ◌∷◌, ◌++◌, ℕ, leb, ltb, ℤ, pos, ◌+ℤ◌, ◌-ℤ◌}
+use Rattle.std.specs.Prelude.{Bool, true, false, ◌&&◌, ◌||◌, not, List, [], ◌∷◌, ◌++◌, ℕ, leb, ltb, ℤ, pos, ◌+ℤ◌, ◌-ℤ◌, Result, Ok, Err}
 use Rattle.std.specs.Int.Signed.{le_z, lt_z}
 use Rattle.ints.specs.Whole.{between}
 use Rattle.grid.specs.Reports.{is_time, is_id, is_position, in_range}
@@ -13,12 +13,9 @@ use Rattle.grid.specs.declared.Report.{Report}
 use Rattle.grid.specs.declared.When.{When}
 use Rattle.grid.specs.declared.When.TheVariants.{At, During}
 use Rattle.ledger.specs.declared.Change.{Change}
-use Rattle.ledger.specs.declared.Change.TheVariants as Change
 use Rattle.ledger.specs.declared.Ask.{Ask}
 use Rattle.ledger.specs.declared.Refusal.{Refusal}
 use Rattle.ledger.specs.declared.Refusal.TheVariants.{WrongLength, Unsound, BadTime, BadWindow, BadNumber, AlreadyHeld, NotHeld, Full, ListTooShort}
-use Rattle.ledger.specs.declared.Verdict.{Verdict}
-use Rattle.ledger.specs.declared.Verdict.TheVariants.{Passed, Failed}
 
 -- one check: whether it fails, and the refusal given then
 pub record Check : Type 0 where
@@ -28,13 +25,13 @@ pub record Check : Type 0 where
 abbrev pub check : Bool → Refusal → Check
 check b r = record { fails = b; refusal = r }
 
-abbrev pub unless : Bool → Refusal → Verdict → Verdict
-unless true r v = Failed r
+abbrev pub unless : Bool → Refusal → Result (Unit {0}) Refusal → Result (Unit {0}) Refusal
+unless true r v = Err r
 unless false r v = v
 
 -- checks run one by one, and the first to fail is given
-unfoldable pub first_to_fail : List Check → Verdict
-first_to_fail [] = Passed
+unfoldable pub first_to_fail : List Check → Result (Unit {0}) Refusal
+first_to_fail [] = Ok tt
 first_to_fail (c ∷ cs) = unless c.fails c.refusal (first_to_fail cs)
 
 -- where the check of each refusal stands: 1, 2, 3, 10, 4, 5, 6, 7, 8

@@ -25,8 +25,7 @@ impl Change {
         ensures { result ≡ time_of self }
     {
         match self {
-            Change::Add(r) => r.t,
-            Change::Report(r) => r.t,
+            Change::Add(r) | Change::Report(r) => r.t,
             Change::Drop(_, t) => t,
         }
     }
@@ -36,8 +35,7 @@ impl Change {
         ensures { result ≡ id_of self }
     {
         match self {
-            Change::Add(r) => r.id,
-            Change::Report(r) => r.id,
+            Change::Add(r) | Change::Report(r) => r.id,
             Change::Drop(id, _) => id,
         }
     }
@@ -56,7 +54,7 @@ impl Ask {
         ensures { result ≡ ask_of method time low_x low_y high_x high_y }
     {
         Ask {
-            method: method,
+            method,
             query: Query {
                 rect: Rect::of(low_x, low_y, high_x, high_y),
                 when: When::At(time),
@@ -77,7 +75,7 @@ impl Ask {
         ensures { result ≡ window_of method first last low_x low_y high_x high_y }
     {
         Ask {
-            method: method,
+            method,
             query: Query {
                 rect: Rect::of(low_x, low_y, high_x, high_y),
                 when: When::During(first, last),
@@ -127,13 +125,6 @@ pub enum Refusal {
     ListTooShort(usize),
 }
 
-// What the checks of a call come to.
-#[derive(Clone, Copy)]
-pub enum Verdict {
-    Passed,
-    Failed(Refusal),
-}
-
 impl Refusal {
     pub fn number(self) -> usize
         ensures { result ≡ refusal_number self }
@@ -157,14 +148,7 @@ impl Refusal {
     {
         match self {
             Refusal::ListTooShort(needed) => needed,
-            Refusal::WrongLength => 0,
-            Refusal::Unsound => 0,
-            Refusal::BadTime => 0,
-            Refusal::BadWindow => 0,
-            Refusal::BadNumber => 0,
-            Refusal::AlreadyHeld => 0,
-            Refusal::NotHeld => 0,
-            Refusal::Full => 0,
+            _ => 0,
         }
     }
 }
