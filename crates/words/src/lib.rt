@@ -34,7 +34,7 @@ fn move_on(store: &mut [i32], table: &mut [i16], t: i32)
     requires { CanStep (words store.old table.old) t }
     ensures { words store.new table.new ≡ moved_on t (words store.old table.old) }
 {
-    let s = Step::between(records::now_of(store), t as i64);
+    let s = Step::between(records::now_of(store), i64::from(t));
     if s.to <= s.from {
         store::writing::set_now(store, t);
         return;

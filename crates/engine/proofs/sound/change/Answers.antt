@@ -13,10 +13,16 @@ left_at-left-requires c = sound_store (words c.args.store.now c.args.table.now) 
 pub change_verdict-requires : goal.change_verdict-requires
 change_verdict-requires c =
     let w = words c.args.store.now c.args.table.now in
-    record { has = record { store = sound_store w c.requires; distinct = sound_distinct w c.requires }; left_is = simp (held w32 c.time.result c.time.type_inv ∙ c.time.ensures) at c.left_at-left.ensures }
+    record {
+      has = record { store = sound_store w c.requires; distinct = sound_distinct w c.requires };
+      left_is = simp (held w32 c.time.result c.time.type_inv ∙ c.time.ensures) at c.left_at-left.ensures;
+    }
 
 pub make_change-requires : goal.make_change-requires
-make_change-requires c = record { can_make = record { sound = c.requires; passed = sym c.in-Ok.ensures }; left_is = simp (held w32 c.time.result c.time.type_inv ∙ c.time.ensures) at c.left_at-left.ensures }
+make_change-requires c = record {
+  can_make = record { sound = c.requires; passed = sym c.in-Ok.ensures };
+  left_is = simp (held w32 c.time.result c.time.type_inv ∙ c.time.ensures) at c.left_at-left.ensures;
+}
 
 pub returns-in-Err : goal.returns-in-Err
 unfolding change_out
