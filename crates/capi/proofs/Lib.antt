@@ -1,2 +1,1 @@
-pub mod RepliesLaws
 pub mod Hosts

@@ -6,7 +6,6 @@ use Rattle.records.specs.Words.{Words}
 use Rattle.ledger.specs.Machine.{opened}
 use Rattle.ledger.specs.Calls as Ledger
 use Rattle.ledger.specs.declared.Call.{Call}
-use Rattle.ledger.specs.declared.Call.TheVariants as Call
 use Rattle.ledger.specs.declared.Change.TheVariants as Change
 use Rattle.grid.specs.Reports.{report_of}
 use Rattle.engine.specs.Index.{open_out, clock_out, change_out, ask_out}

@@ -29,8 +29,8 @@ fn plain(number: usize, value: usize) -> Reply
     ensures { result ≡ plain number value }
 {
     Reply {
-        number: number,
-        value: value,
+        number,
+        value,
         cells: 0,
         useful: 0,
         rounds: 0,
@@ -45,9 +45,9 @@ fn reply_of(answer: Answer) -> Reply
         Answer::Listed(listed, cells, useful, rounds) => Reply {
             number: 0,
             value: listed,
-            cells: cells,
-            useful: useful,
-            rounds: rounds,
+            cells,
+            useful,
+            rounds,
         },
         Answer::Refused(why) => plain(why.number(), why.value()),
     }
@@ -57,12 +57,12 @@ fn report_of(id: i32, t: i32, x: i32, y: i32, vx: i32, vy: i32) -> Report
     ensures { result ≡ report_of id t x y vx vy }
 {
     Report {
-        id: id,
-        t: t,
-        x: x,
-        y: y,
-        vx: vx,
-        vy: vy,
+        id,
+        t,
+        x,
+        y,
+        vx,
+        vy,
     }
 }
 

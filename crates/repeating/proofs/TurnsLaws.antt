@@ -1,16 +1,17 @@
 -- Where several stores are there and sound, each one is; their number is what their words have room for; and no more asks are accepted than made.
 -- Assumes nothing.
-use mathlib.Core.Path.{◌≡◌, refl, ap, ap₂, subst, ◌∙◌}
+use mathlib.Core.Path.{◌≡◌, refl, sym, ap, ap₂, subst, ◌∙◌}
 use mathlib.Core.Bool.{Bool, true, false, cond, ◌&&◌}
 use mathlib.Core.List.{List}
 use mathlib.Core.Logic.{dite}
 use Prim.Native.Nat.{ℕ, zero, suc, ◌+◌, ◌*◌, ◌/◌, ◌≤◌, ◌<◌}
 use native.Mathlib.Decide.{ℕ_discrete}
 use native.Mathlib.Omega.{arith}
-use borrow.Author.Tests.{lt-ltb, le-ltb, ltb-false, eqb-true}
+use borrow.Author.Tests.{ltb-false, eqb-true}
 use lib.Dec.{eqb, ltb}
 use lib.IntN.{ℤ}
 use lib.ListN.{length}
+use Rattle.ints.proofs.Parts.{true_false}
 use Rattle.ints.proofs.Truth.{and_left, and_right}
 use Rattle.rows.specs.Table.{table_words}
 use Rattle.records.specs.Records.{store_words}
@@ -20,7 +21,7 @@ use Rattle.ledger.specs.declared.Answer.TheVariants.{Accepted, Listed, Refused}
 use Rattle.ledger.specs.declared.Ask.{Ask}
 use Rattle.engine.specs.Index.{ask_out}
 use Rattle.asking.specs.Asking.{GivesList}
-use Rattle.repeating.specs.Turns.{Turns, most_stores, most_turns, and_then, accepted_in, asked_once, stores_in, part_at, all_sound, asked_each, asked_over, asked_in_turn}
+use Rattle.repeating.specs.Turns.{Turns, most_stores, and_then, accepted_in, asked_once, stores_in, part_at, all_sound, asked_each, asked_over}
 use Rattle.repeating.specs.Turns.{HasStores, HasStore, CanAskOnce, CanAskEach, Leaves}
 
 -- ---- how many stores there are
@@ -59,6 +60,14 @@ module _ (stores tables : List ℤ) where
   pub sound_next : (k : ℕ) → all_sound stores tables (k + 1) ≡ all_sound stores tables k && are_sound (part_at stores tables k)
   unfolding all_sound
   sound_next k = let e : k + 1 ≡ suc k = omega arith in ap (all_sound stores tables) e
+
+  -- where one of the first n is not sound, not all are
+  pub not_all : (n k : ℕ) → k < n → are_sound (part_at stores tables k) ≡ false → false ≡ all_sound stores tables n
+  not_all n k l e = go (all_sound stores tables n) refl
+    where
+      go : (b : Bool) → all_sound stores tables n ≡ b → false ≡ b
+      go true h = absurd (true_false (sym (sound_at n k h l) ∙ e))
+      go false h = refl
 
   pub can_ask_once : (n k : ℕ) → CanAskEach stores tables n → k < n → CanAskOnce stores tables k
   can_ask_once n k c l = record { there = has_store n k c.there l; sound = sound_at n k c.sound l }
@@ -121,19 +130,3 @@ module _ (stores tables : List ℤ) (ask : Ask) (list₀ : List ℕ) (a r : ℕ)
       let e : suc turn ≡ turn + 1 = omega arith in
       subst (λ (i : ℕ). Leaves (asked_over stores tables ask list₀ n i) (a + r) after) e
       (more (asked_over stores tables ask list₀ n turn) (λ l. asked_each stores tables ask l n) a r list after x y)
-
--- ---- nothing is asked, or all
-
-module _ (stores tables : List ℤ) (ask : Ask) (list : List ℕ) (n turns : ℕ) where
-  pub too_many : most_turns < turns → Leaves (asked_in_turn stores tables ask list n turns) 0 list
-  unfolding asked_in_turn
-  too_many h = rw (lt-ltb most_turns turns h) (record { accepted_is = refl; list_is = refl })
-
-  pub not_sound : turns ≤ most_turns → all_sound stores tables n ≡ false → Leaves (asked_in_turn stores tables ask list n turns) 0 list
-  unfolding asked_in_turn
-  not_sound h e = rw (le-ltb most_turns turns h, e) (record { accepted_is = refl; list_is = refl })
-
-  pub all_asked : turns ≤ most_turns → all_sound stores tables n ≡ true → (a : ℕ) (after : List ℕ) → Leaves (asked_over stores tables ask list n turns) a after
-      → Leaves (asked_in_turn stores tables ask list n turns) a after
-  unfolding asked_in_turn
-  all_asked h e a after x = rw (le-ltb most_turns turns h, e) x

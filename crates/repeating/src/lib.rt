@@ -17,21 +17,16 @@ const STORES: usize = 64;
 
 const TURNS: usize = 1000000;
 
-// How many stores and tables there are in so many words.
+// How many stores and tables there are in so many words: none where the two numbers do not fit each other.
 fn stores_in(store_words: usize, table_words: usize) -> usize
     ensures { result ≡ stores_in store_words table_words }
 {
     let n = store_words / STORE_WORDS;
-    if STORES < n {
-        return 0;
+    if n <= STORES && STORE_WORDS * n == store_words && TABLE_WORDS * n == table_words {
+        n
+    } else {
+        0
     }
-    if STORE_WORDS * n != store_words {
-        return 0;
-    }
-    if TABLE_WORDS * n != table_words {
-        return 0;
-    }
-    n
 }
 
 fn is_sound_at(stores: &[i32], tables: &[i16], k: usize) -> bool
@@ -49,22 +44,19 @@ fn all_sound(stores: &[i32], tables: &[i16], n: usize) -> bool
     requires { HasStores stores.now tables.now n }
     ensures { result ≡ all_sound stores.now tables.now n }
 {
-    let mut sound = true;
-    let mut k = 0;
-    while k < n {
-        let here = is_sound_at(stores, tables, k);
-        sound = sound & here;
-        k += 1;
+    for k in 0..n {
+        if !is_sound_at(stores, tables, k) {
+            return false;
+        }
     }
-    sound
+    true
 }
 
 fn accepted_in(answer: Answer) -> usize
     ensures { result ≡ accepted_in answer }
 {
     match answer {
-        Answer::Accepted(_) => 1,
-        Answer::Listed(_, _, _, _) => 1,
+        Answer::Accepted(_) | Answer::Listed(_, _, _, _) => 1,
         Answer::Refused(_) => 0,
     }
 }
@@ -85,10 +77,8 @@ fn ask_each(stores: &[i32], tables: &[i16], list: &mut [u16], n: usize, ask: Ask
     ensures { Leaves (asked_each stores.now tables.now ask list.old n) result list.new }
 {
     let mut accepted = 0;
-    let mut k = 0;
-    while k < n {
+    for k in 0..n {
         accepted += ask_once(stores, tables, list, k, ask);
-        k += 1;
     }
     accepted
 }
@@ -105,14 +95,13 @@ fn ask_over(
     ensures { Leaves (asked_over stores.now tables.now ask list.old n turns) result list.new }
 {
     let mut accepted = 0;
-    let mut turn = 0;
-    while turn < turns {
+    for _ in 0..turns {
         accepted += ask_each(stores, tables, list, n, ask);
-        turn += 1;
     }
     accepted
 }
 
+#[tactic(auto, unfolding(crate::specs::Turns::asked_in_turn))]
 fn ask_in_turn(
     stores: &[i32],
     tables: &[i16],
@@ -124,10 +113,7 @@ fn ask_in_turn(
     requires { HasStores stores.now tables.now n }
     ensures { Leaves (asked_in_turn stores.now tables.now ask list.old n turns) result list.new }
 {
-    if TURNS < turns {
-        return 0;
-    }
-    if !all_sound(stores, tables, n) {
+    if TURNS < turns || !all_sound(stores, tables, n) {
         return 0;
     }
     ask_over(stores, tables, list, n, turns, ask)
