@@ -1,16 +1,14 @@
 -- A call whose answer and words are those of its definition gives it: by its verdict, refused with the words at entry, or done.
 -- Assumes nothing.
 use Rattle.std.specs.Prelude.{Result, Ok, Err}
-use mathlib.Core.Path.{◌≡◌, refl, ap, ◌∙◌}
+use mathlib.Core.Path.{◌≡◌, refl, ap}
 use mathlib.Core.List.{List}
 use Prim.Native.Nat.{ℕ}
 use lib.IntN.{ℤ}
-use lib.ListN.{length}
-use Rattle.records.specs.Records.{records_of}
-use Rattle.records.specs.Words.{Words, words, records_in}
+use Rattle.records.specs.Words.{Words}
 use Rattle.ledger.specs.Answers.{number_of, value_of, counts_of}
 use Rattle.ledger.specs.declared.Answer.{Answer}
-use Rattle.ledger.specs.declared.Answer.TheVariants.{Accepted, Refused}
+use Rattle.ledger.specs.declared.Answer.TheVariants.{Refused}
 use Rattle.ledger.specs.declared.Ask.{Ask}
 use Rattle.ledger.specs.declared.Call.{Call}
 use Rattle.ledger.specs.declared.Change.{Change}
@@ -35,10 +33,6 @@ refused v r w w' e = rw e (gives (settled (Err r) w w') (Refused r) w refl refl)
 
 pub done : (v : Result (Unit {0}) Refusal) (w w' : Words) (a : Answer) (w'' : Words) → v ≡ Ok tt → Done w' a w'' → Gives (settled v w w') a w''
 done v w w' a w'' e d = rw e (gives (settled (Ok tt) w w') a w'' d.answer_is d.words_are)
-
--- the words at exit and the floats held in them
-pub done_of : (s table : List ℤ) (w : Words) (a : Answer) → words s table ≡ w → a ≡ Accepted (length (records_of s)) → Done w a (words s table)
-done_of s table w a e x = record { answer_is = x ∙ ap (λ (v : Words). Accepted (length (records_in v))) e; words_are = e }
 
 pub list_refused : (v : Result (Unit {0}) Refusal) (r : Refusal) (w : Words) (ask : Ask) (list : List ℕ) → v ≡ Err r → GivesList (ask_settled v w ask list) (Refused r) list
 list_refused v r w ask list e = rw e (gives_list (ask_settled (Err r) w ask list) (Refused r) list refl refl)

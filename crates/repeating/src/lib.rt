@@ -29,29 +29,6 @@ fn stores_in(store_words: usize, table_words: usize) -> usize
     }
 }
 
-fn is_sound_at(stores: &[i32], tables: &[i16], k: usize) -> bool
-    requires { HasStore stores.now tables.now k }
-    ensures { result ≡ are_sound (part_at stores.now tables.now k) }
-{
-    let a = STORE_WORDS * k;
-    let b = a + STORE_WORDS;
-    let c = TABLE_WORDS * k;
-    let d = c + TABLE_WORDS;
-    records::soundness::is_sound(&stores[a..b], &tables[c..d])
-}
-
-fn all_sound(stores: &[i32], tables: &[i16], n: usize) -> bool
-    requires { HasStores stores.now tables.now n }
-    ensures { result ≡ all_sound stores.now tables.now n }
-{
-    for k in 0..n {
-        if !is_sound_at(stores, tables, k) {
-            return false;
-        }
-    }
-    true
-}
-
 fn accepted_in(answer: Answer) -> usize
     ensures { result ≡ accepted_in answer }
 {
@@ -61,62 +38,81 @@ fn accepted_in(answer: Answer) -> usize
     }
 }
 
-fn ask_once(stores: &[i32], tables: &[i16], list: &mut [u16], k: usize, ask: Ask) -> usize
-    requires { CanAskOnce stores.now tables.now k }
-    ensures { Leaves (asked_once (part_at stores.now tables.now k) ask list.old) result list.new }
-{
-    let a = STORE_WORDS * k;
-    let b = a + STORE_WORDS;
-    let c = TABLE_WORDS * k;
-    let d = c + TABLE_WORDS;
-    accepted_in(engine::sound::ask(&stores[a..b], &tables[c..d], list, ask))
+// So many stores, one after the other, and their tables so too.
+#[derive(Clone, Copy)]
+struct Stores<'a> {
+    stores: &'a [i32],
+    tables: &'a [i16],
+    count: usize,
 }
 
-fn ask_each(stores: &[i32], tables: &[i16], list: &mut [u16], n: usize, ask: Ask) -> usize
-    requires { CanAskEach stores.now tables.now n }
-    ensures { Leaves (asked_each stores.now tables.now ask list.old n) result list.new }
-{
-    let mut accepted = 0;
-    for k in 0..n {
-        accepted += ask_once(stores, tables, list, k, ask);
+impl<'a> Stores<'a> {
+    fn is_sound_at(self, k: usize) -> bool
+        requires { HasStore self.stores.now self.tables.now k }
+        ensures { result ≡ are_sound (part_at self.entry.stores.now self.entry.tables.now k) }
+    {
+        let a = STORE_WORDS * k;
+        let b = a + STORE_WORDS;
+        let c = TABLE_WORDS * k;
+        let d = c + TABLE_WORDS;
+        records::soundness::is_sound(&self.stores[a..b], &self.tables[c..d])
     }
-    accepted
-}
 
-fn ask_over(
-    stores: &[i32],
-    tables: &[i16],
-    list: &mut [u16],
-    n: usize,
-    turns: usize,
-    ask: Ask,
-) -> usize
-    requires { CanAskOver stores.now tables.now n turns }
-    ensures { Leaves (asked_over stores.now tables.now ask list.old n turns) result list.new }
-{
-    let mut accepted = 0;
-    for _ in 0..turns {
-        accepted += ask_each(stores, tables, list, n, ask);
+    fn all_sound(self) -> bool
+        requires { HasStores self.stores.now self.tables.now self.count }
+        ensures { result ≡ all_sound self.entry.stores.now self.entry.tables.now self.entry.count }
+    {
+        for k in 0..self.count {
+            if !self.is_sound_at(k) {
+                return false;
+            }
+        }
+        true
     }
-    accepted
-}
 
-#[tactic(auto, unfolding(crate::specs::Turns::asked_in_turn))]
-fn ask_in_turn(
-    stores: &[i32],
-    tables: &[i16],
-    list: &mut [u16],
-    n: usize,
-    turns: usize,
-    ask: Ask,
-) -> usize
-    requires { HasStores stores.now tables.now n }
-    ensures { Leaves (asked_in_turn stores.now tables.now ask list.old n turns) result list.new }
-{
-    if TURNS < turns || !all_sound(stores, tables, n) {
-        return 0;
+    fn ask_once(self, list: &mut [u16], k: usize, ask: Ask) -> usize
+        requires { CanAskOnce self.stores.now self.tables.now k }
+        ensures { Leaves (asked_once (part_at self.entry.stores.now self.entry.tables.now k) ask list.old) result list.new }
+    {
+        let a = STORE_WORDS * k;
+        let b = a + STORE_WORDS;
+        let c = TABLE_WORDS * k;
+        let d = c + TABLE_WORDS;
+        accepted_in(engine::sound::ask(&self.stores[a..b], &self.tables[c..d], list, ask))
     }
-    ask_over(stores, tables, list, n, turns, ask)
+
+    fn ask_each(self, list: &mut [u16], ask: Ask) -> usize
+        requires { CanAskEach self.stores.now self.tables.now self.count }
+        ensures { Leaves (asked_each self.entry.stores.now self.entry.tables.now ask list.old self.entry.count) result list.new }
+    {
+        let mut accepted = 0;
+        for k in 0..self.count {
+            accepted += self.ask_once(list, k, ask);
+        }
+        accepted
+    }
+
+    fn ask_over(self, list: &mut [u16], turns: usize, ask: Ask) -> usize
+        requires { CanAskOver self.stores.now self.tables.now self.count turns }
+        ensures { Leaves (asked_over self.entry.stores.now self.entry.tables.now ask list.old self.entry.count turns) result list.new }
+    {
+        let mut accepted = 0;
+        for _ in 0..turns {
+            accepted += self.ask_each(list, ask);
+        }
+        accepted
+    }
+
+    #[tactic(auto, unfolding(crate::specs::Turns::asked_in_turn))]
+    fn ask_in_turn(self, list: &mut [u16], turns: usize, ask: Ask) -> usize
+        requires { HasStores self.stores.now self.tables.now self.count }
+        ensures { Leaves (asked_in_turn self.entry.stores.now self.entry.tables.now ask list.old self.entry.count turns) result list.new }
+    {
+        if TURNS < turns || !self.all_sound() {
+            return 0;
+        }
+        self.ask_over(list, turns, ask)
+    }
 }
 
 // The ask on each of the stores in turn, and that so many times. The stores stand one after the other, and so do their tables. Nothing is done and 0
@@ -135,12 +131,13 @@ pub fn float_index_asks_in_turn(
 ) -> usize
     ensures { Leaves (asks_made stores.now tables.now (ask_of method asked low_x low_y high_x high_y) turns list.old) result list.new }
 {
-    let n = stores_in(stores.len(), tables.len());
-    ask_in_turn(
+    let lent = Stores {
         stores,
         tables,
+        count: stores_in(stores.len(), tables.len()),
+    };
+    lent.ask_in_turn(
         list,
-        n,
         turns,
         Ask::of(method, asked, low_x, low_y, high_x, high_y),
     )

@@ -1,5 +1,7 @@
 // The changes of the lent words, store and table together: opened, stepped to a time, a report placed, a float taken out. What each asks of the
 // words is in specs/Needs.antt, what it makes of them in specs/Words.antt.
+// Store and table stay two references, as C lends them. A struct of both with methods was tried and is no plainer: each contract then says two facts
+// more, that both references are still the caller's (`take_out` proves so); under a Model view the caller's words after the call are left unknown.
 #![tactic(auto)]
 
 ghost use Rattle.std.specs.Prelude.{◌≡◌};

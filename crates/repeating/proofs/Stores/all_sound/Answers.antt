@@ -2,7 +2,7 @@
 use Rattle.std.proofs.Common.{◌∙◌, ◌&&◌, sym, ap₂, refl, arith}
 use Rattle.repeating.specs.Turns.{all_sound}
 use Rattle.repeating.proofs.TurnsLaws.{not_all, sound_next}
-use Rattle.repeating.proofs.all_sound.Goals as goal
+use Rattle.repeating.proofs.Stores.all_sound.Goals as goal
 
 pub loop-k-init : goal.loop-k-init
 unfolding all_sound
@@ -10,8 +10,8 @@ loop-k-init c = refl
 
 pub returns-then-not-is_sound_at : goal.returns-then-not-is_sound_at
 returns-then-not-is_sound_at c =
-    not_all c.args.stores.now c.args.tables.now c.args.n c.loop-k.k (omega arith) (sym c.is_sound_at.ensures ∙ c.if-not-is_sound_at.true)
+    not_all c.args.self.stores.now c.args.self.tables.now c.args.self.count c.loop-k.k (omega arith) (sym c.is_sound_at.ensures ∙ c.if-not-is_sound_at.true)
 
 pub loop-k-preserved : goal.loop-k-preserved
 loop-k-preserved c =
-    sound_next c.args.stores.now c.args.tables.now c.loop-k.k ∙ ap₂ ◌&&◌ c.loop-k.invariant (sym c.is_sound_at.ensures ∙ c.if-not-is_sound_at.false)
+    sound_next c.args.self.stores.now c.args.self.tables.now c.loop-k.k ∙ ap₂ ◌&&◌ c.loop-k.invariant (sym c.is_sound_at.ensures ∙ c.if-not-is_sound_at.false)

@@ -2,7 +2,7 @@
 use Rattle.std.proofs.Common.{◌≡◌, ◌+◌, ◌-◌, ◌*◌, arith}
 use Rattle.rows.specs.Table.{table_words}
 use Rattle.records.specs.Records.{store_words}
-use Rattle.repeating.proofs.is_sound_at.Goals as goal
+use Rattle.repeating.proofs.Stores.is_sound_at.Goals as goal
 
 pub returns : goal.returns
 returns c =
