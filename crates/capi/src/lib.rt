@@ -1,5 +1,6 @@
 // The index for programs in C and Rust: the seven calls over pointers and lengths, with any numbers and any buffers, and the soundness test alone.
 // Each call gives back the number, the value and the counts that the documents have for its answer, and leaves the words that its definition says.
+// Reports, rectangles and refusals are plain numbers here, and store and table two slices, as the C header has them.
 #![tactic(auto)]
 
 ghost use Rattle.std.specs.Prelude.{◌≡◌};

@@ -1,5 +1,6 @@
 // The index: its public calls over lent buffers, with any numbers and any buffers. Each answers and leaves what its definition says. All but open
 // test the buffers and then make the call of their name over sound ones; add, report and drop are changes.
+// Store and table stay two slices here and in `sound`: the C interface lends them so, and a struct of both is no plainer (see the crate words).
 #![tactic(auto)]
 
 ghost use Rattle.records.specs.Words.{words};

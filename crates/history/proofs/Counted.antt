@@ -17,9 +17,7 @@ use Rattle.ledger.specs.Machine.{Ledger, Held, opened, is_held, keeping, moved_o
 use Rattle.ledger.specs.Calls as L
 use Rattle.ledger.specs.Calls.{Fed}
 use Rattle.ledger.specs.declared.Call.{Call}
-use Rattle.ledger.specs.declared.Call.TheVariants as Call
 use Rattle.ledger.specs.declared.Change.{Change}
-use Rattle.ledger.specs.declared.Change.TheVariants as Change
 use Rattle.ledger.specs.declared.Refusal.TheVariants.{BadTime, BadNumber, NotHeld}
 use Rattle.ledger.proofs.MachineLaws.{moved_length, without_length}
 use Rattle.ledger.proofs.RefusalsLaws.{first_passed, others_passed, passed_of}

@@ -30,7 +30,6 @@ use Rattle.ledger.specs.Calls.{answer_by}
 use Rattle.ledger.specs.declared.Answer.TheVariants.{Accepted}
 use Rattle.ledger.specs.declared.Ask.{Ask}
 use Rattle.ledger.specs.declared.Call.{Call}
-use Rattle.ledger.specs.declared.Call.TheVariants as Call
 use Rattle.ledger.specs.declared.Change.{Change}
 use Rattle.ledger.specs.declared.Refusal.TheVariants.{WrongLength, BadTime}
 use Rattle.ledger.proofs.RefusalsLaws.{first_passed, others_passed}

@@ -44,9 +44,7 @@ use Rattle.ledger.specs.Machine.{Ledger, Placement, live_placements, new_placeme
 use Rattle.ledger.specs.Calls as L
 use Rattle.ledger.specs.Calls.{Fed}
 use Rattle.ledger.specs.declared.Call.{Call}
-use Rattle.ledger.specs.declared.Call.TheVariants as Call
 use Rattle.ledger.specs.declared.Change.{Change}
-use Rattle.ledger.specs.declared.Change.TheVariants as Change
 use Rattle.ledger.specs.declared.Refusal.TheVariants.{WrongLength, Unsound, BadTime}
 use Rattle.ledger.proofs.MachineLaws.{speeds_append, speeds_live}
 use Rattle.ledger.proofs.RefusalsLaws.{first_passed, others_passed, passed_of}

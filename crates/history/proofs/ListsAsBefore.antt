@@ -24,9 +24,7 @@ use Rattle.ledger.specs.Calls.{Fed, answer_by}
 use Rattle.ledger.specs.declared.Answer.{Answer}
 use Rattle.ledger.specs.declared.Answer.TheVariants.{Accepted, Listed}
 use Rattle.ledger.specs.declared.Call.{Call}
-use Rattle.ledger.specs.declared.Call.TheVariants as Call
 use Rattle.ledger.specs.declared.Change.{Change}
-use Rattle.ledger.specs.declared.Change.TheVariants as Change
 use Rattle.ledger.proofs.MachineLaws.{same_report}
 use Rattle.ledger.proofs.Claims.{refusals_are_plain}
 use Rattle.history.specs.Index.{fed_all}

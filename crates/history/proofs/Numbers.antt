@@ -17,9 +17,7 @@ use Rattle.ledger.specs.Calls as L
 use Rattle.ledger.specs.Calls.{Fed, Reply, answer_by}
 use Rattle.ledger.specs.declared.Answer.{Answer}
 use Rattle.ledger.specs.declared.Call.{Call}
-use Rattle.ledger.specs.declared.Call.TheVariants as Call
 use Rattle.ledger.specs.declared.Change.{Change}
-use Rattle.ledger.specs.declared.Change.TheVariants as Change
 use Rattle.engine.specs.Index.{open_out, clock_out}
 use Rattle.history.specs.Index.{fed_all}
 use Rattle.history.specs.Claims.{OneAndTwoNeverComeUp}

@@ -32,14 +32,11 @@ use Rattle.ledger.specs.Machine.{Ledger, Held, opened, keeping, moved_held, move
 use Rattle.ledger.specs.Calls as L
 use Rattle.ledger.specs.Calls.{Fed}
 use Rattle.ledger.specs.declared.Call.{Call}
-use Rattle.ledger.specs.declared.Call.TheVariants as Call
 use Rattle.ledger.specs.declared.Change.{Change}
-use Rattle.ledger.specs.declared.Change.TheVariants as Change
 use Rattle.ledger.proofs.MachineLaws.{same_report, moved_from, without_member}
 use Rattle.engine.specs.Checks.{checks_of}
 use Rattle.engine.specs.Index as Engine
 use Rattle.engine.specs.Index.{settled, clock_out, change_out, call_out}
-use Rattle.history.specs.Index.{next}
 use Rattle.history.specs.Silence.{steps, none_silent, none_silent_in, StepLeavesNoneSilent, IndexStepLeavesNoneSilent, NoHeldFloatIsSilent, NoPointHasASilentFloat}
 use Rattle.history.proofs.Relation.{records_of_held}
 use Rattle.history.proofs.HeldRecords.{records_from}

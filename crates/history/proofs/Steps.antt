@@ -35,7 +35,6 @@ use Rattle.words.proofs.WordsPlacedLaws.{placed_time, placed_records, placed_can
 use Rattle.ledger.specs.Refusals.{Check, check, first_to_fail, bad_step_time, clock_checks, time_of, id_of, bad_numbers, held_checks, change_checks}
 use Rattle.ledger.specs.Machine.{Ledger, Held, is_held, moved_held, keeping, moved_on, stepped, with_report, without_id, changed, rows_in}
 use Rattle.ledger.specs.declared.Change.{Change}
-use Rattle.ledger.specs.declared.Change.TheVariants as Change
 use Rattle.ledger.specs.declared.Refusal.TheVariants.{BadTime, BadNumber, AlreadyHeld, NotHeld, Full}
 use Rattle.ledger.proofs.MachineLaws.{without_length}
 use Rattle.ledger.proofs.RefusalsLaws.{first_passed, others_passed}

@@ -23,7 +23,6 @@ use Rattle.ledger.specs.Calls as L
 use Rattle.ledger.specs.Calls.{Fed, Reply}
 use Rattle.ledger.specs.declared.Ask.{Ask}
 use Rattle.ledger.specs.declared.Call.{Call}
-use Rattle.ledger.specs.declared.Call.TheVariants as Call
 use Rattle.ledger.specs.declared.Change.TheVariants as Change
 use Rattle.asking.specs.Asking.{choice_of}
 use Rattle.engine.specs.Index.{open_out}

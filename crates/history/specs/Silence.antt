@@ -10,7 +10,6 @@ use Rattle.ledger.specs.Machine.{Ledger, opened}
 use Rattle.ledger.specs.Calls as L
 use Rattle.ledger.specs.Calls.{Fed}
 use Rattle.ledger.specs.declared.Call.{Call}
-use Rattle.ledger.specs.declared.Call.TheVariants as Call
 use Rattle.history.specs.Index.{LentCall, reply_to, next}
 use Rattle.history.specs.Points.{Point}
 
