@@ -2,14 +2,13 @@
 -- Assumes nothing.
 use Rattle.std.specs.Prelude.{◌≡◌, Bool, List, ℕ, suc, ◌+◌, ◌*◌, ◌/◌, ◌≤◌, ◌<◌, ℤ, pos, length, get_or}
 use Rattle.std.specs.Int.Signed.{le_z}
+use Rattle.std.specs.declared.ops.Range.{Range}
 use Rattle.grid.specs.Units.{capacity}
 use Rattle.records.specs.Records.{record_words, read_records, records_of}
 use Rattle.records.specs.Order.{key_at}
 use Rattle.records.specs.Places.{first_of}
 use Rattle.records.specs.Soundness.{IsStore}
 use Rattle.records.specs.declared.Record.{Record}
-use Rattle.reading.specs.declared.runs.Run.{Run}
-use Rattle.reading.specs.declared.runs.Part.{Part}
 
 -- before the first record whose key is at least the given one
 abbrev pub is_from : ℤ → Record → Bool
@@ -32,16 +31,16 @@ pub record SlotAsked (s : List ℤ) (slot : ℕ) : Type 0 where
   pub one_of_three : slot < 3
 
 -- the run of a slot's records: from its first key on, up to the first key of the next
-pub record RunOfSlot (s : List ℤ) (slot : ℕ) (run : Run) : Type 0 where
+pub record RunOfSlot (s : List ℤ) (slot : ℕ) (run : Range ℕ) : Type 0 where
   pub starts : run.start ≡ first_from (key_at slot 0) (records_of s)
-  pub stops : run.stop ≡ first_from (key_at (suc slot) 0) (records_of s)
+  pub stops : run.end ≡ first_from (key_at (suc slot) 0) (records_of s)
 
--- two records of a store in order, or the same
-pub record PlacesAsked (first stop : ℕ) : Type 0 where
-  pub ordered : first ≤ stop
-  pub few : stop ≤ capacity
+-- some records of a store, in order
+pub record PlacesAsked (run : Range ℕ) : Type 0 where
+  pub ordered : run.start ≤ run.end
+  pub few : run.end ≤ capacity
 
--- the words of the records from one up to another, behind record 0
-pub record PartOf (first stop : ℕ) (part : Part) : Type 0 where
-  pub starts : part.start ≡ record_words * suc first
-  pub stops : part.stop ≡ record_words * suc stop
+-- the words of some records, behind record 0
+pub record PartOf (run part : Range ℕ) : Type 0 where
+  pub starts : part.start ≡ record_words * suc run.start
+  pub stops : part.end ≡ record_words * suc run.end

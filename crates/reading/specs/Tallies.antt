@@ -1,10 +1,10 @@
 -- What one pass over some records gathers: the listed ones counted, with their cells, and their ids; and what the functions of tallies.rt ask and give.
 -- Assumes nothing.
 use Rattle.std.specs.Prelude.{◌≡◌, Bool, true, cond, List, [], ◌∷◌, ◌++◌, ℕ, ◌+◌, ◌-◌, ◌/◌, ◌≤◌, ◌<◌, ℤ, length, take, drop}
+use Rattle.std.specs.declared.ops.Range.{Range}
 use Rattle.ints.specs.Whole.{eq_z}
 use Rattle.ints.specs.Lists.{passing}
 use Rattle.grid.specs.Units.{capacity}
-use Rattle.grid.specs.Reports.{is_id}
 use Rattle.grid.specs.Small.{SmallQuery}
 use Rattle.grid.specs.declared.Query.{Query}
 use Rattle.grid.specs.declared.Report.{Report}
@@ -14,10 +14,6 @@ use Rattle.records.specs.declared.Record.{Record}
 use Rattle.reading.specs.Runs.{records_in}
 use Rattle.reading.specs.Reading.{ids_of}
 use Rattle.reading.specs.declared.tallies.Tally.{Tally}
-
--- an id
-pub record IsId (id : ℤ) : Type 0 where
-  pub in_range_lem : is_id id ≡ true
 
 -- the listed ones among some records
 abbrev pub listed_of : (Report → Bool) → List Record → List Record
@@ -52,14 +48,14 @@ pub record RunFits (w : List ℤ) (query : Query) (ids : List ℕ) (t : Tally) :
   pub few_listed : t.listed + length w / record_words ≤ capacity
   pub few_useful : t.useful ≤ t.listed
 
--- what reading the records of a store from one up to another asks
-pub record RunAsked (s : List ℤ) (first stop : ℕ) (query : Query) (ids : List ℕ) (t : Tally) : Type 0 where
+-- what reading some records of a store asks
+pub record RunAsked (s : List ℤ) (run : Range ℕ) (query : Query) (ids : List ℕ) (t : Tally) : Type 0 where
   pub store : IsStore s
-  pub ordered : first ≤ stop
-  pub inside : stop ≤ held_of s
+  pub ordered : run.start ≤ run.end
+  pub inside : run.end ≤ held_of s
   pub small : SmallQuery query
   pub room : capacity < length ids
-  pub few_listed : t.listed ≤ first
+  pub few_listed : t.listed ≤ run.start
   pub few_useful : t.useful ≤ t.listed
 
 -- what a pass over some records gives back: the listed ones counted, and their ids behind those listed before

@@ -1,31 +1,22 @@
 // The records of a run read: the listed ones are counted, with their cells, and their ids written one behind the other.
 ghost use Rattle.std.specs.Prelude.{◌≡◌, cond};
-ghost use Rattle.ints.specs.Whole.{up};
 ghost use Rattle.grid.specs.Reports.{is_listed};
 ghost use Rattle.records.specs.Records.{records_of};
 ghost use Rattle.reading.specs.Runs.{records_in};
-ghost use Rattle.reading.specs.Timeslices.{query_of};
-ghost use Rattle.reading.specs.Tallies.{IsId, counted, CanCount, records_between, RunFits, RunAsked, RunRead};
+ghost use Rattle.reading.specs.Tallies.{counted, CanCount, records_between, RunFits, RunAsked, RunRead};
 
 use crate::runs::part_of;
-use crate::timeslices::Timeslice;
+use crate::timeslices::{Lists, Timeslice};
 use grid::{Query, When};
-use records::order::is_same;
 use records::{RECORD_WORDS, Record};
+use std::ops::Range;
 
-// Counts on the way: floats listed, useful cells, and the key of the last float listed.
+// Counts on the way: floats listed, useful cells, and the key of the last float listed, or -1, which is no key.
 #[derive(Clone, Copy)]
 pub struct Tally {
     pub listed: usize,
     pub useful: usize,
     pub last: i32,
-}
-
-// One of two numbers, without a branch.
-fn chosen(is_first: bool, first: i32, second: i32) -> i32
-    ensures { result ≡ cond is_first first second }
-{
-    if is_first { first } else { second }
 }
 
 impl Tally {
@@ -34,93 +25,54 @@ impl Tally {
         requires { CanCount self }
         ensures { result ≡ cond is_listed (counted self r) self }
     {
-        let is_useful = is_listed & !is_same(r.key, self.last);
+        let is_useful = is_listed & (r.key != self.last);
         Tally {
-            listed: self.listed + (is_listed as usize),
-            useful: self.useful + (is_useful as usize),
-            last: chosen(is_listed, r.key, self.last),
+            listed: self.listed + usize::from(is_listed),
+            useful: self.useful + usize::from(is_useful),
+            last: if is_listed { r.key } else { self.last },
         }
     }
 }
 
-// An id in 16 bits.
-fn narrow(id: i32) -> u16
-    requires { IsId id }
-    ensures { result ≡ up id }
+// A pass over the records of one run. Every id is written behind those listed so far, and only a listed one moves the place on: the loop has a branch only
+// where the test has one.
+fn read_by<L: Lists>(words: &[i32], test: L, ids: &mut [u16], before: Tally) -> Tally
+    requires { RunFits words.now (L.query test) ids.old before }
+    ensures { RunRead (is_listed (L.query test)) (records_in words.now) ids.old before ids.new result }
 {
-    id as u16
-}
-
-// A pass over the records of one run, for a timeslice. Every id is written behind those listed so far, and only a listed one moves the place on: the loop
-// has no branch.
-fn read_at(words: &[i32], slice: Timeslice, ids: &mut [u16], t: Tally) -> Tally
-    requires { RunFits words.now (query_of slice) ids.old t }
-    ensures { RunRead (is_listed (query_of slice)) (records_in words.now) ids.old t ids.new result }
-{
-    let n = words.len() / RECORD_WORDS;
-    let mut tally = t;
-    let mut i = 0;
-    while i < n {
+    let mut tally = before;
+    for i in 0..words.len() / RECORD_WORDS {
         let r = Record::read_from(words, RECORD_WORDS * i);
-        let at = tally.listed;
-        ids[at] = narrow(r.report.id);
-        tally = tally.count(r, slice.lists(r.report));
-        i += 1;
+        ids[tally.listed] = r.report.id as u16;
+        tally = tally.count(r, test.lists(r.report));
     }
     tally
 }
 
-// The same for a query of any kind, whose test has branches.
-fn read_when(words: &[i32], query: Query, ids: &mut [u16], t: Tally) -> Tally
-    requires { RunFits words.now query ids.old t }
-    ensures { RunRead (is_listed query) (records_in words.now) ids.old t ids.new result }
+// The kind of query is settled before the pass.
+fn read_run(words: &[i32], query: Query, ids: &mut [u16], before: Tally) -> Tally
+    requires { RunFits words.now query ids.old before }
+    ensures { RunRead (is_listed query) (records_in words.now) ids.old before ids.new result }
 {
-    let n = words.len() / RECORD_WORDS;
-    let mut tally = t;
-    let mut i = 0;
-    while i < n {
-        let r = Record::read_from(words, RECORD_WORDS * i);
-        let at = tally.listed;
-        ids[at] = narrow(r.report.id);
-        tally = tally.count(r, r.report.is_listed(query));
-        i += 1;
-    }
-    tally
-}
-
-// A pass over the records of one run. The kind of query is settled before it.
-fn read_run(words: &[i32], query: Query, ids: &mut [u16], t: Tally) -> Tally
-    requires { RunFits words.now query ids.old t }
-    ensures { RunRead (is_listed query) (records_in words.now) ids.old t ids.new result }
-{
-    let rect = query.rect;
-    let when = query.when;
-    match when {
+    match query.when {
         When::At(time) => {
-            let slice = Timeslice {
-                rect: rect,
-                time: time,
-            };
-            read_at(words, slice, ids, t)
+            let rect = query.rect;
+            read_by(words, Timeslice { rect, time }, ids, before)
         }
-        When::During(_first, _last) => read_when(words, query, ids, t),
+        When::During(_, _) => read_by(words, query, ids, before),
     }
 }
 
-// The records of a store from one up to another read, through the part of the store that is their words.
+// Some records of a store read, through the part of the store that is their words.
 pub fn read_between(
     store: &[i32],
-    first: usize,
-    stop: usize,
+    run: Range<usize>,
     query: Query,
     ids: &mut [u16],
-    t: Tally,
+    before: Tally,
 ) -> Tally
-    requires { RunAsked store.now first stop query ids.old t }
-    ensures { RunRead (is_listed query) (records_between first stop (records_of store.now)) ids.old t ids.new result }
+    requires { RunAsked store.now run query ids.old before }
+    ensures { RunRead (is_listed query) (records_between run.start run.end (records_of store.now)) ids.old before ids.new result }
 {
-    let part = part_of(first, stop);
-    let a = part.start;
-    let b = part.stop;
-    read_run(&store[a..b], query, ids, t)
+    read_run(&store[part_of(run)], query, ids, before)
 }
