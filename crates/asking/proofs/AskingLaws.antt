@@ -1,12 +1,16 @@
 -- What a sound index and an ask with good numbers give the functions that choose and read, and bounds on what these count.
 -- Assumes nothing.
 use Rattle.std.specs.Prelude.{Result, Ok, Err}
-use mathlib.Core.Path.{◌≡◌, refl, sym, ap, ◌∙◌}
+use mathlib.Core.Path.{◌≡◌, refl, sym, ap, subst, ◌∙◌}
 use mathlib.Core.Bool.{Bool, true, false}
 use mathlib.Core.List.{List, [], ◌∷◌, ◌++◌, append-nil, append_assoc}
 use Prim.Native.Nat.{ℕ, zero, suc, ◌+◌, ◌-◌, ◌*◌, ◌≤◌, ◌<◌}
 use native.Mathlib.Omega.{arith}
 use borrow.Author.Tests.{lt-ltb, le-ltb}
+use mir.Facts.{to_z-of_z}
+use mir.Syntax.{w64}
+use mir.Val.{SFits, of_z, to_z}
+use lib.IntN.{ℤ}
 use lib.ListN.{length, take, drop, replicate, length-drop}
 use lib.Seq.{length-take-le, take-append-add, take-append-le}
 use Rattle.ints.specs.Whole.{up}
@@ -15,7 +19,7 @@ use Rattle.grid.specs.Reports.{is_listed}
 use Rattle.rows.specs.Row.{empty_row, is_empty, same_row}
 use Rattle.rows.specs.Phases.{phase_of, is_live, slot_of, live_phases, last_phase}
 use Rattle.rows.specs.declared.Row.{Row}
-use Rattle.rows.proofs.PhasesLaws.{slot_on, live_range}
+use Rattle.rows.proofs.PhasesLaws.{slot_on, live_range, range_live}
 use Rattle.methods.specs.Aims.{Aim, aim_in}
 use Rattle.methods.specs.Methods.{Rows, Found, missing, found, bounds_in, naive_block, iterated, iterative_search, choice}
 use Rattle.methods.specs.Slots.{rows_of_slot}
@@ -43,8 +47,8 @@ use Rattle.ledger.specs.declared.Answer.{Answer}
 use Rattle.ledger.specs.declared.Answer.TheVariants.{Listed, Refused}
 use Rattle.ledger.specs.declared.Ask.{Ask}
 use Rattle.ledger.specs.declared.Refusal.TheVariants.{ListTooShort}
-use Rattle.asking.specs.Asking.{listed_of, phases_now, ids_needed, ids_found, cells_counted, useful_counted, rounds_counted, AskOutcome, GivesList}
-use Rattle.asking.specs.Counted.{CanAsk, room_checks, settled_by_room, CanChooseIn, CanReadIn, ReadIn, SmallCounts, CountedTogether, ids_listed, CountedIn, CountedAlso, CountedOver}
+use Rattle.asking.specs.Asking.{choice_of, marks_in, listed_of, phases_now, ids_needed, ids_found, cells_counted, useful_counted, rounds_counted, AskOutcome, GivesList}
+use Rattle.asking.specs.Counted.{CanAsk, CanAskAlso, room_checks, settled_by_room, CanChooseIn, CanReadIn, ReadIn, SmallCounts, CountedTogether, ids_listed, CountedIn, CountedAlso, CountedOver}
 use Rattle.asking.specs.declared.Counts.{Counts}
 use Rattle.asking.proofs.AskingPhasesLaws.{FitAsk, fit_ask, good_method, fit_small, fit_in_order, asked_in, small_times, can_count}
 use Rattle.asking.proofs.Claims.{found_is, list_is_exact}
@@ -147,8 +151,39 @@ module _ (w : Words) (ask : Ask) (p : ℕ) (store : IsStore w.store) where
 
 -- ---- and over the live phases, which are one, two or three
 
-pub small_room : {most : ℕ} (more : ℕ) (a : Counts) → most ≤ more → SmallCounts most a → SmallCounts more a
-small_room more a h x = omega arith
+-- the phase of a store's time, of the numbers as the code has them
+pub newest_is : (w : Words) (now : ℤ) (newest : ℕ) → SFits w64 now → now ≡ time_in w → newest ≡ phase_of (to_z w64 (of_z w64 now)) → newest ≡ phase_of (time_in w)
+newest_is w now newest f e h = h ∙ ap phase_of (to_z-of_z f ∙ e)
+
+-- n phases from one down
+pub phases_down : ℕ → ℕ → List ℕ
+phases_down c zero = []
+phases_down c (suc n) = c ∷ phases_down (c - 1) n
+
+one_down : (c n : ℕ) → phases_down c (suc n) ≡ phases_down c n ++ ((c - n) ∷ [])
+unfolding phases_down
+one_down c zero = let e : c - 0 ≡ c = omega arith in rw e
+one_down c (suc n) =
+    let e : c - 1 - n ≡ c - suc n = omega arith in
+    ap (λ (ps : List ℕ). c ∷ ps) (one_down (c - 1) n ∙ ap (λ (p : ℕ). phases_down (c - 1) n ++ (p ∷ [])) e)
+
+all_down : (c p : ℕ) → p ≡ c - 2 → phases_down c (suc c - p) ≡ live_phases c
+unfolding phases_down live_phases
+all_down zero p e = let n : 1 - p ≡ 1 = omega arith in rw n
+all_down (suc zero) p e =
+    let n : 2 - p ≡ 2 = omega arith in
+    let k : 1 - 1 ≡ 0 = omega arith in
+    rw (n, k)
+all_down (suc (suc c)) p e =
+    let n : suc (suc (suc c)) - p ≡ 3 = omega arith in
+    let k : suc (suc c) - 1 ≡ suc c = omega arith in
+    let l : suc (suc c) - 1 - 1 ≡ c = omega arith in
+    rw n (λ i. suc (suc c) ∷ k i ∷ l i ∷ [])
+
+summed_more : (f : ℕ → ℕ) (ps : List ℕ) (p : ℕ) → summed f (ps ++ (p ∷ [])) ≡ summed f ps + f p
+unfolding summed
+summed_more f [] p = omega arith
+summed_more f (q ∷ ps) p = omega (arith, summed_more f ps p)
 
 module _ (w : Words) (ask : Ask) where
   -- the ids of a phase more stand behind those that stood already
@@ -178,82 +213,97 @@ module _ (w : Words) (ask : Ask) where
         small = λ most s. let h = x.small in omega (arith, z.read_sum.listed_sum, z.read_sum.cells_sum, z.read_sum.useful_sum, z.rounds_sum);
       }
 
-  pub over_one : (ps : List ℕ) (p : ℕ) → ps ≡ p ∷ [] → (ids : List ℕ) (a : Counts) → 3 * capacity < length ids → CountedIn w ask p ids a → CountedOver w ask ps ids a
+  ids_more : (ps : List ℕ) (p : ℕ) → ids_listed w ask (ps ++ (p ∷ [])) ≡ ids_listed w ask ps ++ ids_of (listed_of w ask p)
+  unfolding ids_listed
+  ids_more [] p = append-nil (ids_of (listed_of w ask p))
+  ids_more (q ∷ ps) p =
+      ap (λ (l : List ℕ). ids_of (listed_of w ask q) ++ l) (ids_more ps p)
+      ∙ sym (append_assoc (ids_of (listed_of w ask q)) (ids_listed w ask ps) (ids_of (listed_of w ask p)))
+
+  over_one : (p : ℕ) (ids : List ℕ) (a : Counts) → capacity < length ids → CountedIn w ask p ids a → CountedOver w ask (p ∷ []) ids a
   unfolding summed ids_listed
-  over_one ps p e ids a room x = rw e (record {
+  over_one p ids a room x = record {
     listed_are = let h = x.listed_are in omega arith;
     cells_are = let h = x.cells_are in omega arith;
     useful_are = let h = x.useful_are in omega arith;
     rounds_are = let h = x.rounds_are in omega arith;
     ids_are = x.ids_are ∙ sym (append-nil (ids_of (listed_of w ask p)));
     inside = let h = x.few_listed in omega arith;
-  })
+  }
 
-  pub over_two :
-      (ps : List ℕ) (p p' : ℕ)
-      → ps ≡ p ∷ p' ∷ []
-      → (ids ids' : List ℕ) (a b : Counts)
-      → 3 * capacity < length ids'
-      → CountedIn w ask p ids a
-      → CountedAlso w ask p' a ids ids' b
-      → CountedOver w ask ps ids' b
-  unfolding summed ids_listed
-  over_two ps p p' e ids ids' a b room x y = rw e (record {
-    listed_are = let i = x.listed_are in let j = y.listed_are in omega arith;
-    cells_are = let i = x.cells_are in let j = y.cells_are in omega arith;
-    useful_are = let i = x.useful_are in let j = y.useful_are in omega arith;
-    rounds_are = let i = x.rounds_are in let j = y.rounds_are in omega arith;
-    ids_are =
-        let second = ids_of (listed_of w ask p') in
-        y.ids_are ∙ ap (λ (l : List ℕ). l ++ second) x.ids_are ∙ ap (λ (l : List ℕ). ids_of (listed_of w ask p) ++ l) (sym (append-nil second));
-    inside = let i = x.few_listed in let j = y.few_listed in omega arith;
-  })
+  over_more :
+      (ps : List ℕ) (p : ℕ) (ids ids' : List ℕ) (a b : Counts)
+      → b.read.listed ≤ length ids'
+      → CountedOver w ask ps ids a
+      → CountedAlso w ask p a ids ids' b
+      → CountedOver w ask (ps ++ (p ∷ [])) ids' b
+  over_more ps p ids ids' a b h x y = record {
+    listed_are = let i = x.listed_are in let j = y.listed_are in omega (arith, summed_more (λ q. length (listed_of w ask q)) ps p);
+    cells_are = let i = x.cells_are in let j = y.cells_are in omega (arith, summed_more (λ q. cells_in (marks_in w ask q) 0 cells) ps p);
+    useful_are = let i = x.useful_are in let j = y.useful_are in omega (arith, summed_more (λ q. useful_in (slot_of q) (listed_of w ask q) 0 cells) ps p);
+    rounds_are = let i = x.rounds_are in let j = y.rounds_are in omega (arith, summed_more (λ q. (choice_of w ask q).rounds) ps p);
+    ids_are = y.ids_are ∙ ap (λ (l : List ℕ). l ++ ids_of (listed_of w ask p)) x.ids_are ∙ sym (ids_more ps p);
+    inside = h;
+  }
 
-  pub over_three :
-      (ps : List ℕ) (p p' p'' : ℕ)
-      → ps ≡ p ∷ p' ∷ p'' ∷ []
-      → (ids ids' ids'' : List ℕ) (a b c : Counts)
-      → 3 * capacity < length ids''
-      → CountedIn w ask p ids a
-      → CountedAlso w ask p' a ids ids' b
-      → CountedAlso w ask p'' b ids' ids'' c
-      → CountedOver w ask ps ids'' c
-  unfolding summed ids_listed
-  over_three ps p p' p'' e ids ids' ids'' a b c room x y z = rw e (record {
-    listed_are = let i = x.listed_are in let j = y.listed_are in let k = z.listed_are in omega arith;
-    cells_are = let i = x.cells_are in let j = y.cells_are in let k = z.cells_are in omega arith;
-    useful_are = let i = x.useful_are in let j = y.useful_are in let k = z.useful_are in omega arith;
-    rounds_are = let i = x.rounds_are in let j = y.rounds_are in let k = z.rounds_are in omega arith;
-    ids_are =
-        let first = ids_of (listed_of w ask p) in
-        let second = ids_of (listed_of w ask p') in
-        let third = ids_of (listed_of w ask p'') in
-        z.ids_are
-        ∙ ap (λ (l : List ℕ). l ++ third) (y.ids_are ∙ ap (λ (l : List ℕ). l ++ second) x.ids_are)
-        ∙ append_assoc first second third
-        ∙ ap (λ (l : List ℕ). first ++ (second ++ l)) (sym (append-nil third));
-    inside = let i = x.few_listed in let j = y.few_listed in let k = z.few_listed in omega arith;
-  })
+  -- the phases from the current one, c, down to p are asked
+  pub record Asked (c p : ℕ) (ids : List ℕ) (a : Counts) : Type 0 where
+    pub later : c - 2 ≤ p
+    pub within : p ≤ c
+    pub room : 3 * capacity < length ids
+    pub over : CountedOver w ask (phases_down c (suc c - p)) ids a
+    pub few_listed : a.read.listed ≤ (suc c - p) * capacity
+    pub small : SmallCounts ((suc c - p) * id_marks) a
 
-pub phases_one : (c : ℕ) → c < 1 → live_phases c ≡ c ∷ []
-unfolding live_phases
-phases_one zero h = refl
-phases_one (suc c) h = absurd (omega arith)
+  pub asked_first : (c : ℕ) (ids : List ℕ) (a : Counts) → 3 * capacity < length ids → CountedIn w ask c ids a → Asked c c ids a
+  unfolding phases_down
+  asked_first c ids a room x =
+      let n : suc c - c ≡ 1 = omega arith in
+      record {
+        later = omega arith;
+        within = omega arith;
+        room = room;
+        over = rw n (over_one c ids a (omega arith) x);
+        few_listed = rw n (let h = x.few_listed in omega arith);
+        small = rw n (let h = x.small in omega arith);
+      }
 
-pub phases_two : (c : ℕ) → 1 ≤ c → c < 2 → live_phases c ≡ c ∷ (c - 1) ∷ []
-unfolding live_phases
-phases_two zero h k = absurd (omega arith)
-phases_two (suc zero) h k = refl
-phases_two (suc (suc c)) h k = absurd (omega arith)
+  module _ (c p : ℕ) (ids : List ℕ) (a : Counts) (x : Asked c p ids a) where
+    pub can_ask_also : CanAsk w ask → c ≡ phase_of (time_in w) → c - 2 < p → CanAskAlso w ask (p - 1) a ids
+    can_ask_also can e h =
+        let k = x.within in
+        let f = x.few_listed in
+        let r = x.room in
+        let s = x.small in
+        record {
+          can_ask = can;
+          live = rw (← e) (range_live c (p - 1) (omega arith) (omega arith));
+          room = omega arith;
+          small = omega arith;
+        }
 
-pub phases_three : (c : ℕ) → 2 ≤ c → live_phases c ≡ c ∷ (c - 1) ∷ (c - 2) ∷ []
-unfolding live_phases
-phases_three zero h = absurd (omega arith)
-phases_three (suc zero) h = absurd (omega arith)
-phases_three (suc (suc c)) h =
-    let x : suc c ≡ suc (suc c) - 1 = omega arith in
-    let y : c ≡ suc (suc c) - 2 = omega arith in
-    λ i. suc (suc c) ∷ x i ∷ y i ∷ []
+    pub asked_also : (ids' : List ℕ) (b : Counts) → c - 2 < p → length ids' ≡ length ids → CountedAlso w ask (p - 1) a ids ids' b → Asked c (p - 1) ids' b
+    asked_also ids' b h l y =
+        let k = x.within in
+        let f = x.few_listed in
+        let g = y.few_listed in
+        let r = x.room in
+        let n : suc c - (p - 1) ≡ suc (suc c - p) = omega arith in
+        let e : c - (suc c - p) ≡ p - 1 = omega arith in
+        let s = y.small ((suc c - p) * id_marks) x.small in
+        record {
+          later = omega arith;
+          within = omega arith;
+          room = omega arith;
+          over = rw (n, one_down c (suc c - p), e) (over_more (phases_down c (suc c - p)) (p - 1) ids ids' a b (omega arith) x.over y);
+          few_listed = rw n (omega arith);
+          small = rw n (omega arith);
+        }
+
+    pub asked_all : c ≡ phase_of (time_in w) → p ≤ c - 2 → CountedOver w ask (phases_now w ask) ids a
+    asked_all e h =
+        let l = x.later in
+        subst (λ (ps : List ℕ). CountedOver w ask ps ids a) (all_down c p (omega arith) ∙ ap live_phases e) x.over
 
 -- ---- the answer and the list of an ask
 

@@ -18,6 +18,7 @@ use grid::Query;
 use ledger::{Answer, Ask, Refusal};
 use methods::Method;
 use reading::Reading;
+use std::ops::Add;
 
 // Places for the ids that an ask lists: each live phase lists no more floats than can be held, and reading wants one place more.
 const IDS: usize = rows::SLOTS * records::CAPACITY + 1;
@@ -30,36 +31,31 @@ pub struct Counts {
 }
 
 impl Counts {
-    fn plus(self, other: Counts) -> Counts
-        requires { CanAdd self other }
-        ensures { CountedTogether self other result }
-    {
-        let here = self.read;
-        let there = other.read;
-        Counts {
-            read: here.plus(there),
-            rounds: self.rounds + other.rounds,
-        }
-    }
-
-    fn ids_needed(self) -> usize
-        ensures { result ≡ self.read.listed }
-    {
-        let read = self.read;
-        read.ids_listed()
-    }
-
     // The answer of an accepted ask: its counts are those of the readings.
     fn answer(self) -> Answer
         ensures { result ≡ Listed self.read.listed self.read.cells self.read.useful self.rounds }
     {
-        let read = self.read;
         Answer::Listed(
-            read.ids_listed(),
-            read.cells_read(),
-            read.useful_cells(),
+            self.read.ids_listed(),
+            self.read.cells_read(),
+            self.read.useful_cells(),
             self.rounds,
         )
+    }
+}
+
+impl Add for Counts {
+    type Output = Counts;
+
+    ghost can_add = { CanAdd };
+
+    ghost add_gives = { CountedTogether };
+
+    fn add(self, other: Counts) -> Counts {
+        Counts {
+            read: self.read + other.read,
+            rounds: self.rounds + other.rounds,
+        }
     }
 }
 
@@ -118,8 +114,8 @@ fn ask_also_in(
     requires { CanAskAlso (words store.now table.now) ask p before ids.old }
     ensures { CountedAlso (words store.now table.now) ask p before ids.old ids.new result }
 {
-    let n = before.ids_needed();
-    before.plus(ask_in(store, table, p, ask, &mut ids[n..]))
+    let listed = before.read.ids_listed();
+    before + ask_in(store, table, p, ask, &mut ids[listed..])
 }
 
 // An ask in each live phase, newest first.
@@ -127,16 +123,12 @@ fn ask_in_all(store: &[i32], table: &[i16], ask: Ask, ids: &mut [u16]) -> Counts
     requires { CanAskAll (words store.now table.now) ask ids.old }
     ensures { CountedOver (words store.now table.now) ask (phases_now (words store.now table.now) ask) ids.new result }
 {
-    let c = rows::phase_of(records::now_of(store));
-    let newest = ask_in(store, table, c, ask, ids);
-    if c < 1 {
-        return newest;
+    let newest = rows::phase_of(records::now_of(store));
+    let mut counts = ask_in(store, table, newest, ask, ids);
+    for p in (newest.saturating_sub(rows::SLOTS - 1)..newest).rev() {
+        counts = ask_also_in(store, table, p, ask, counts, ids);
     }
-    let two = ask_also_in(store, table, c - 1, ask, newest, ids);
-    if c < 2 {
-        return two;
-    }
-    ask_also_in(store, table, c - 2, ask, two, ids)
+    counts
 }
 
 // An ask whose checks up to 4 are passed, with places for the ids it lists. Nothing is written to the list before it is known to have room.
@@ -145,7 +137,7 @@ fn ask_with(store: &[i32], table: &[i16], list: &mut [u16], ask: Ask, ids: &mut 
     ensures { GivesList (settled_by_room (words store.now table.now) ask list.old) result list.new }
 {
     let counts = ask_in_all(store, table, ask, ids);
-    let needed = counts.ids_needed();
+    let needed = counts.read.ids_listed();
     if list.len() < needed {
         return Answer::Refused(Refusal::ListTooShort(needed));
     }
