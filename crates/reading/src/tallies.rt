@@ -41,8 +41,8 @@ fn read_by<L: Lists>(words: &[i32], test: L, ids: &mut [u16], before: Tally) -> 
     ensures { RunRead (is_listed (L.query test)) (records_in words.now) ids.old before ids.new result }
 {
     let mut tally = before;
-    for i in 0..words.len() / RECORD_WORDS {
-        let r = Record::read_from(words, RECORD_WORDS * i);
+    for record in words.chunks_exact(RECORD_WORDS) {
+        let r = Record::read_from(record, 0);
         ids[tally.listed] = r.report.id as u16;
         tally = tally.count(r, test.lists(r.report));
     }
