@@ -14,12 +14,12 @@ use lib.Dec.{eqb, leb, lit<, lit≤}
 use lib.IntN.{ℤ, pos, negsuc}
 use lib.ListN.{length, get_or, take, drop, length-drop}
 use lib.Seq.{take-suc, get_or-drop}
-use Rattle.ints.proofs.Parts.{true_false}
+use Rattle.std.specs.Prelude.{Some, None}
 use Rattle.ints.proofs.Truth.{and_left, and_right}
 use Rattle.fields.specs.declared.reading.Seen.{Seen}
 use Rattle.fields.specs.declared.reading.Seen.TheVariants.{Blanks, Minus, Zero, Digits, Other}
 use Rattle.fields.specs.Fields.{digit, digits, justified, field_of, is_writable, greatest, least_size}
-use Rattle.fields.specs.Reading.{size_seen, with_digit, after, number, no_number, number_of, seen_at, field_at, unsigned, unsigned_of, unsigned_at}
+use Rattle.fields.specs.Reading.{size_seen, with_digit, after, number_of, seen_at, field_at, unsigned_of, unsigned_at}
 use Rattle.fields.specs.Writing.{columns_of, number_in}
 use Rattle.fields.proofs.ReadingLaws.{seen_size}
 use Rattle.fields.proofs.WritingLaws.{columns_more, number_above, field_above, field_below, in_range_lem}
@@ -155,7 +155,7 @@ zero_read : read_all Blanks (number_in 10 32 0) ≡ Zero
 unfolding columns_of read_all after
 zero_read = refl
 
-field_read : (z : ℤ) → is_writable z ≡ true → number_of (read_all Blanks (field_of z)) ≡ number z
+field_read : (z : ℤ) → is_writable z ≡ true → number_of (read_all Blanks (field_of z)) ≡ Some z
 unfolding number_of
 field_read (pos zero) h = ap number_of (ap (read_all Blanks) (field_above 0 (lit≤ tt)) ∙ zero_read)
 field_read (pos (suc n)) h =
@@ -168,19 +168,19 @@ field_read (negsuc n) h =
     ∙ simp (le-leb (suc n) least_size l)
 
 -- a written field in a line is read to its number
-pub written_field : (line : List ℕ) (at : ℕ) (z : ℤ) → at + 10 ≤ length line → is_writable z ≡ true → part line at 10 ≡ field_of z → field_at line at ≡ number z
+pub written_field : (line : List ℕ) (at : ℕ) (z : ℤ) → at + 10 ≤ length line → is_writable z ≡ true → part line at 10 ≡ field_of z → field_at line at ≡ Some z
 written_field line at z h w e =
     ap number_of (seen_is line at 10 h ∙ ap (read_all Blanks) e) ∙ field_read z w
 
 -- a number from 0 on in ten columns
-unsigned_read : (n : ℕ) → n < 10 ^ 10 → unsigned_of (read_all Blanks (justified 10 (digits 10 n))) ≡ unsigned n
+unsigned_read : (n : ℕ) → n < 10 ^ 10 → unsigned_of (read_all Blanks (justified 10 (digits 10 n))) ≡ Some n
 unfolding unsigned_of
 unsigned_read zero h = ap unsigned_of (ap (read_all Blanks) (number_above 10 0 (lit< tt) h) ∙ zero_read)
 unsigned_read (suc n) h =
     ap unsigned_of (ap (read_all Blanks) (number_above 10 (suc n) (lit< tt) h) ∙ ten_read false (suc n) (omega arith) (omega arith))
 
 pub written_unsigned :
-    (line : List ℕ) (at n : ℕ) → at + 10 ≤ length line → n < 10 ^ 10 → part line at 10 ≡ justified 10 (digits 10 n) → unsigned_at line at ≡ unsigned n
+    (line : List ℕ) (at n : ℕ) → at + 10 ≤ length line → n < 10 ^ 10 → part line at 10 ≡ justified 10 (digits 10 n) → unsigned_at line at ≡ Some n
 written_unsigned line at n h l e =
     ap unsigned_of (seen_is line at 10 h ∙ ap (read_all Blanks) e) ∙ unsigned_read n l
 
@@ -245,53 +245,45 @@ bytes_seen line at (suc k) h =
     subst (Bytes (seen_at line at (suc k)) (suc k)) (sym (part_more line at k h))
     (next_bytes (seen_at line at k) k (get_or line (at + k) 0) (part line at k) (bytes_seen line at k (omega arith)))
 
-above_field : (n : ℕ) (t : List ℕ) → 0 < n → t ≡ columns_of 10 32 n → (number_of (Digits false n)).good ≡ true → t ≡ field_of (number_of (Digits false n)).number
-unfolding number_of
-above_field n t h e = go (leb n greatest) refl
-  where
-    go : (d : Bool) → leb n greatest ≡ d → (cond (leb n greatest) (number (pos n)) no_number).good ≡ true → t ≡ field_of (cond (leb n greatest) (number (pos n)) no_number).number
-    go true d =
-        rw d (λ _. e ∙ columns_more 9 32 n h ∙ sym (field_above n (leb-true n greatest d)))
-    go false d = rw d (λ q. absurd (true_false (sym q)))
+-- a number under a test
+tested : {A : Type 0} (test : Bool) (x : A) {y : A} → cond test (Some x) None ≡ Some y → (test ≡ true) × (x ≡ y)
+tested true x e = (refl, cc)
+tested false x e = cc
 
-below_field : (n : ℕ) (t : List ℕ) → t ≡ columns_of 10 45 (suc n) → (number_of (Digits true (suc n))).good ≡ true → t ≡ field_of (number_of (Digits true (suc n))).number
+bytes_field : (s : Seen) (t : List ℕ) (z : ℤ) → Bytes s 10 t → number_of s ≡ Some z → t ≡ field_of z
 unfolding number_of
-below_field n t e = go (leb (suc n) least_size) refl
-  where
-    go :
-        (d : Bool)
-        → leb (suc n) least_size ≡ d
-        → (cond (leb (suc n) least_size) (number (negsuc n)) no_number).good ≡ true
-        → t ≡ field_of (cond (leb (suc n) least_size) (number (negsuc n)) no_number).number
-    go true d =
-        rw d
-        (λ _. e ∙ columns_more 9 45 (suc n) (omega arith) ∙ sym (field_below n (omega (arith, leb-true (suc n) least_size d))))
-    go false d = rw d (λ q. absurd (true_false (sym q)))
-
-bytes_field : (s : Seen) (t : List ℕ) → Bytes s 10 t → (number_of s).good ≡ true → t ≡ field_of (number_of s).number
-unfolding number_of
-bytes_field Blanks t e h = absurd (true_false (sym h))
-bytes_field Minus t e h = absurd (true_false (sym h))
-bytes_field Zero t e h = e ∙ sym (field_above 0 (lit≤ tt))
-bytes_field (Digits false n) t e h = above_field n t e.0 e.1 h
-bytes_field (Digits true zero) t e h = absurd (omega (arith, e.0))
-bytes_field (Digits true (suc n)) t e h = below_field n t e.1 h
-bytes_field Other t e h = absurd (true_false (sym h))
+bytes_field Blanks t z e h = cc
+bytes_field Minus t z e h = cc
+bytes_field Zero t z e h =
+    let is : pos 0 ≡ z = cc in
+    e ∙ sym (field_above 0 (lit≤ tt)) ∙ ap field_of is
+bytes_field (Digits false n) t z e h =
+    let is = tested (leb n greatest) (pos n) h in
+    e.1 ∙ columns_more 9 32 n e.0 ∙ sym (field_above n (leb-true n greatest is.0)) ∙ ap field_of is.1
+bytes_field (Digits true zero) t z e h = absurd (omega (arith, e.0))
+bytes_field (Digits true (suc n)) t z e h =
+    let is = tested (leb (suc n) least_size) (negsuc n) h in
+    e.1 ∙ columns_more 9 45 (suc n) (omega arith) ∙ sym (field_below n (omega (arith, leb-true (suc n) least_size is.0))) ∙ ap field_of is.1
+bytes_field Other t z e h = cc
 
 -- a field in a line that is read to a number is that number's
-pub read_field_is : (line : List ℕ) (at : ℕ) → at + 10 ≤ length line → (field_at line at).good ≡ true → part line at 10 ≡ field_of (field_at line at).number
-read_field_is line at h g = bytes_field (seen_at line at 10) (part line at 10) (bytes_seen line at 10 h) g
+pub read_field_is : (line : List ℕ) (at : ℕ) (z : ℤ) → at + 10 ≤ length line → field_at line at ≡ Some z → part line at 10 ≡ field_of z
+read_field_is line at z h e = bytes_field (seen_at line at 10) (part line at 10) z (bytes_seen line at 10 h) e
 
-bytes_unsigned : (s : Seen) (t : List ℕ) → size_seen s < 10 ^ 10 → Bytes s 10 t → (unsigned_of s).good ≡ true → t ≡ justified 10 (digits 10 (unsigned_of s).number)
+bytes_unsigned : (s : Seen) (t : List ℕ) (m : ℕ) → size_seen s < 10 ^ 10 → Bytes s 10 t → unsigned_of s ≡ Some m → t ≡ justified 10 (digits 10 m)
 unfolding unsigned_of
-bytes_unsigned Blanks t l e h = absurd (true_false (sym h))
-bytes_unsigned Minus t l e h = absurd (true_false (sym h))
-bytes_unsigned Zero t l e h = e ∙ sym (number_above 10 0 (lit< tt) (lit< tt))
-bytes_unsigned (Digits false n) t l e h = e.1 ∙ columns_more 9 32 n e.0 ∙ sym (number_above 10 n (lit< tt) l)
-bytes_unsigned (Digits true n) t l e h = absurd (true_false (sym h))
-bytes_unsigned Other t l e h = absurd (true_false (sym h))
+bytes_unsigned Blanks t m l e h = cc
+bytes_unsigned Minus t m l e h = cc
+bytes_unsigned Zero t m l e h =
+    let is : 0 ≡ m = cc in
+    e ∙ sym (number_above 10 0 (lit< tt) (lit< tt)) ∙ ap (λ (i : ℕ). justified 10 (digits 10 i)) is
+bytes_unsigned (Digits false n) t m l e h =
+    let is : n ≡ m = cc in
+    e.1 ∙ columns_more 9 32 n e.0 ∙ sym (number_above 10 n (lit< tt) l) ∙ ap (λ (i : ℕ). justified 10 (digits 10 i)) is
+bytes_unsigned (Digits true n) t m l e h = cc
+bytes_unsigned Other t m l e h = cc
 
 -- the same of a number from 0 on
-pub read_unsigned_is : (line : List ℕ) (at : ℕ) → at + 10 ≤ length line → (unsigned_at line at).good ≡ true → part line at 10 ≡ justified 10 (digits 10 (unsigned_at line at).number)
-read_unsigned_is line at h g =
-    bytes_unsigned (seen_at line at 10) (part line at 10) (seen_size line at 10) (bytes_seen line at 10 h) g
+pub read_unsigned_is : (line : List ℕ) (at m : ℕ) → at + 10 ≤ length line → unsigned_at line at ≡ Some m → part line at 10 ≡ justified 10 (digits 10 m)
+read_unsigned_is line at m h e =
+    bytes_unsigned (seen_at line at 10) (part line at 10) m (seen_size line at 10) (bytes_seen line at 10 h) e

@@ -8,7 +8,10 @@ use native.Mathlib.Nat.{pow-succ', pow-le-pow_right}
 use native.Mathlib.Omega.{arith}
 use borrow.Author.Tests.{leb-true}
 use lib.Dec.{eqb, leb, lit<}
-use lib.ListN.{get_or}
+use lib.ListN.{get_or, take, drop}
+use lib.Seq.{get_or-drop}
+use native.Mathlib.Numerals.{add-one}
+use Rattle.std.proofs.lemmas.List.{get_or-take}
 use Rattle.ints.proofs.Truth.{and_right}
 use Rattle.fields.specs.declared.reading.Seen.{Seen}
 use Rattle.fields.specs.declared.reading.Seen.TheVariants.{Blanks, Minus, Zero, Digits, Other}
@@ -45,3 +48,12 @@ seen_size line at (suc k) =
 pub seen_small : (line : List ℕ) (at k : ℕ) → k < 10 → size_seen (seen_at line at k) < 10 ^ 10
 seen_small line at k h =
     omega (arith, seen_size line at k, pow-le-pow_right {n = 10} (lit< tt) {i = k} {j = 10} (omega arith))
+
+-- one byte more, of the part of the line that has the field
+pub next_seen :
+    (line : List ℕ) (at n k : ℕ) (s : Seen)
+    → k < n
+    → s ≡ seen_at line at k
+    → after s (get_or (take n (drop at line)) k 0) ≡ seen_at line at (k + 1)
+unfolding seen_at
+next_seen line at n k s h e = rw (get_or-take n (drop at line) k 0 h, get_or-drop at line k 0, e, add-one k) refl

@@ -1,6 +1,6 @@
 -- The columns of a number, as the code writes them, are its text at their end; a field is the case of ten. Of the bytes, 32 is a blank and 45 is "-".
 -- Assumes nothing.
-use mathlib.Core.Path.{◌≡◌, refl, sym, ap, ◌∙◌}
+use mathlib.Core.Path.{◌≡◌, refl, sym, ap, ap₂, ◌∙◌}
 use mathlib.Core.Bool.{true}
 use mathlib.Core.List.{List, [], ◌∷◌, ◌++◌, append_assoc, append-nil}
 use mathlib.Core.Logic.{dite}
@@ -11,12 +11,14 @@ use native.Mathlib.Omega.{arith}
 use borrow.Author.Tests.{lt-ltb, le-ltb, ne_eqb}
 use lib.Dec.{lit<}
 use lib.IntN.{ℤ, pos, negsuc, nat_abs, neg_ℤ}
-use lib.ListN.{length, replicate, length-append, replicate-append-replicate}
+use lib.ListN.{length, replicate, set, length-append, replicate-append-replicate}
 use lib.Signed.{le_z}
 use Rattle.ints.proofs.Parts.{up, down, le_true}
 use Rattle.ints.proofs.Truth.{and_left, and_right}
 use Rattle.fields.specs.Fields.{digit, digits, written, justified, field_of, is_writable, greatest, least_size}
-use Rattle.fields.specs.Writing.{lead_after, columns_of, number_in, lead_of}
+use Rattle.fields.specs.Put.{put}
+use Rattle.fields.specs.Writing.{byte_of, lead_after, columns_of, number_in, lead_of}
+use Rattle.fields.proofs.PutLaws.{put_none, put_last}
 
 pub length-columns : (k lead n : ℕ) → length (columns_of k lead n) ≡ k
 unfolding columns_of
@@ -130,3 +132,35 @@ length-number columns lead n h = length-append (columns_of (columns - 1) lead (n
 
 pub length_field : (z : ℤ) → is_writable z ≡ true → length (field_of z) ≡ 10
 length_field z h = ap length (field_columns z h) ∙ length-number 10 (lead_of z) (nat_abs z) (lit< tt)
+
+-- ---- columns put from the last to the first
+
+-- columns and one more byte, which is set first
+pub last_put :
+    (out : List ℕ) (at k lead n b i : ℕ)
+    → i ≡ at + k
+    → i < length out
+    → put out at (columns_of k lead n ++ b ∷ []) ≡ put (set out i b) at (columns_of k lead n)
+last_put out at k lead n b i e h =
+    let l : at + length (columns_of k lead n) ≡ i = omega (arith, length-columns k lead n) in
+    put_last out at (columns_of k lead n) b (omega arith) ∙ ap (λ (j : ℕ). put (set out j b) at (columns_of k lead n)) l
+
+-- the last of those that are left
+pub next_put :
+    (out : List ℕ) (at k lead n b lead' : ℕ)
+    → 0 < k
+    → at + (k - 1) < length out
+    → b ≡ byte_of lead n
+    → lead' ≡ lead_after lead n
+    → put out at (columns_of k lead n) ≡ put (set out (at + (k - 1)) b) at (columns_of (k - 1) lead' (n / 10))
+unfolding columns_of
+next_put out at k lead n b lead' h l e f =
+    let s : k ≡ suc (k - 1) = omega arith in
+    ap (λ (i : ℕ). put out at (columns_of i lead n)) s
+    ∙ ap₂ (λ (x y : ℕ). put out at (columns_of (k - 1) y (n / 10) ++ x ∷ [])) (sym e) (sym f)
+    ∙ last_put out at (k - 1) lead' (n / 10) b (at + (k - 1)) refl l
+
+pub none_put : (out : List ℕ) (at k lead n : ℕ) → k ≤ 0 → put out at (columns_of k lead n) ≡ out
+unfolding columns_of
+none_put out at zero lead n h = put_none out at
+none_put out at (suc k) lead n h = absurd (omega arith)

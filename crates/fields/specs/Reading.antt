@@ -1,10 +1,8 @@
 -- How a number is read. That a written number is read, and that one that is read is written so, is proved in proofs/FieldsLaws.antt.
 -- Assumes nothing.
-use Rattle.std.specs.Prelude.{Bool, true, false, cond, ◌&&◌, List, ℕ, zero, suc, ◌+◌, ◌-◌, ◌*◌, eqb, leb, ℤ, pos, neg_ℤ, get_or}
+use Rattle.std.specs.Prelude.{Bool, true, false, cond, ◌&&◌, List, ℕ, zero, suc, ◌+◌, ◌-◌, ◌*◌, eqb, leb, Option, Some, None, ℤ, pos, neg_ℤ, get_or}
 use Prim.Native.Char.{code}
-use Rattle.fields.specs.declared.reading.Field.{Field}
 use Rattle.fields.specs.declared.reading.Seen.{Seen}
-use Rattle.fields.specs.declared.reading.Unsigned.{Unsigned}
 use Rattle.fields.specs.declared.reading.Seen.TheVariants.{Blanks, Minus, Zero, Digits, Other}
 use Rattle.fields.specs.Fields.{width, greatest, least_size}
 
@@ -29,20 +27,14 @@ after Zero b = Other
 after (Digits negative n) b = with_digit negative n b
 after Other b = Other
 
-abbrev pub number : ℤ → Field
-number z = record { good = true; number = z }
-
-abbrev pub no_number : Field
-no_number = record { good = false; number = pos 0 }
-
 -- a number that a line may have
-unfoldable pub number_of : Seen → Field
-number_of Blanks = no_number
-number_of Minus = no_number
-number_of Zero = number (pos 0)
-number_of (Digits false n) = cond (leb n greatest) (number (pos n)) no_number
-number_of (Digits true n) = cond (leb n least_size) (number (neg_ℤ (pos n))) no_number
-number_of Other = no_number
+unfoldable pub number_of : Seen → Option ℤ
+number_of Blanks = None
+number_of Minus = None
+number_of Zero = Some (pos 0)
+number_of (Digits false n) = cond (leb n greatest) (Some (pos n)) None
+number_of (Digits true n) = cond (leb n least_size) (Some (neg_ℤ (pos n))) None
+number_of Other = None
 
 -- what the k bytes from a place on are
 unfoldable pub seen_at : List ℕ → ℕ → ℕ → Seen
@@ -50,26 +42,20 @@ seen_at line at zero = Blanks
 seen_at line at (suc k) = after (seen_at line at k) (get_or line (at + k) 0)
 
 -- the field that starts at a place of a line
-abbrev pub field_at : List ℕ → ℕ → Field
+abbrev pub field_at : List ℕ → ℕ → Option ℤ
 field_at line at = number_of (seen_at line at width)
 
 -- ---- numbers from 0 on, which may be greater than a line's
 
-abbrev pub unsigned : ℕ → Unsigned
-unsigned n = record { good = true; number = n }
-
-abbrev pub no_unsigned : Unsigned
-no_unsigned = record { good = false; number = 0 }
-
 -- 0, or digits without "-"
-unfoldable pub unsigned_of : Seen → Unsigned
-unsigned_of Blanks = no_unsigned
-unsigned_of Minus = no_unsigned
-unsigned_of Zero = unsigned 0
-unsigned_of (Digits false n) = unsigned n
-unsigned_of (Digits true n) = no_unsigned
-unsigned_of Other = no_unsigned
+unfoldable pub unsigned_of : Seen → Option ℕ
+unsigned_of Blanks = None
+unsigned_of Minus = None
+unsigned_of Zero = Some 0
+unsigned_of (Digits false n) = Some n
+unsigned_of (Digits true n) = None
+unsigned_of Other = None
 
 -- the one whose columns start at a place of a line
-abbrev pub unsigned_at : List ℕ → ℕ → Unsigned
+abbrev pub unsigned_at : List ℕ → ℕ → Option ℕ
 unsigned_at line at = unsigned_of (seen_at line at width)

@@ -11,17 +11,9 @@ pub fn write_numbers(out: &mut [u8], at: usize, numbers: &[i32])
     requires { FieldsRoom at numbers.now out.old }
     ensures { out.new ≡ put out.old at (fields numbers.now) }
 {
-    let mut i = 0;
-    while i < numbers.len() {
-        writing::write_field(out, at + WIDTH * i, numbers[i]);
-        i += 1;
+    for (i, z) in numbers.iter().enumerate() {
+        writing::write_field(out, at + WIDTH * i, *z);
     }
-}
-
-fn wide(n: u16) -> usize
-    ensures { result ≡ n }
-{
-    n as usize
 }
 
 // Some numbers from a place on, each in so many columns.
@@ -29,14 +21,13 @@ pub fn write_unsigned(out: &mut [u8], at: usize, columns: usize, numbers: &[u16]
     requires { ColumnsRoom at columns numbers.now out.old }
     ensures { out.new ≡ put out.old at (in_columns columns numbers.now) }
 {
-    let mut i = 0;
-    while i < numbers.len() {
-        writing::write_columns(out, at + columns * i, columns, b' ', wide(numbers[i]));
-        i += 1;
+    for (i, n) in numbers.iter().enumerate() {
+        writing::write_columns(out, at + columns * i, columns, b' ', usize::from(*n));
     }
 }
 
 // The fields of some ids from a place on.
+#[tactic(auto, using(crate::proofs::NumbersLaws::fields_columns))]
 pub fn write_ids(out: &mut [u8], at: usize, ids: &[u16])
     requires { at + width * length ids.now ≤ length out.old }
     ensures { out.new ≡ put out.old at (fields (map pos ids.now)) }

@@ -1,7 +1,7 @@
 // One number read: its bytes one by one, then the number that they are.
 ghost use Rattle.std.specs.Prelude.{◌≡◌, true, false, ◌+◌, ◌<◌, ◌≤◌, ◌^◌, length, pos, neg_ℤ};
 ghost use Rattle.fields.specs.Fields.{width, least_size};
-ghost use Rattle.fields.specs.Reading.{size_seen, with_digit, after, no_number, number_of, seen_at, field_at, no_unsigned, unsigned_of, unsigned_at};
+ghost use Rattle.fields.specs.Reading.{size_seen, with_digit, after, number_of, seen_at, field_at, unsigned_of, unsigned_at};
 
 use crate::{GREATEST, LEAST_SIZE, WIDTH};
 
@@ -18,33 +18,18 @@ pub enum Seen {
     Other,
 }
 
-// A field's number, 0 where it has none.
-#[derive(Clone, Copy)]
-pub struct Field {
-    pub good: bool,
-    pub number: i32,
-}
-
-// The number from 0 on that the columns of a field are, of up to ten digits; 0 where they are none.
-#[derive(Clone, Copy)]
-pub struct Unsigned {
-    pub good: bool,
-    pub number: usize,
-}
-
+#[tactic(auto, unfolding(crate::specs::Reading::with_digit))]
 fn with_digit(negative: bool, n: usize, b: u8) -> Seen
     requires { n < 10 ^ width }
     ensures { result ≡ with_digit negative n b }
 {
-    if b < b'0' {
-        return Seen::Other;
+    match b {
+        b'0'..=b'9' => Seen::Digits(negative, 10 * n + usize::from(b - b'0')),
+        _ => Seen::Other,
     }
-    if b'9' < b {
-        return Seen::Other;
-    }
-    Seen::Digits(negative, 10 * n + ((b - b'0') as usize))
 }
 
+#[tactic(auto, unfolding(crate::specs::Reading::after))]
 fn after_blanks(b: u8) -> Seen
     ensures { result ≡ after Seen.Blanks b }
 {
@@ -56,6 +41,7 @@ fn after_blanks(b: u8) -> Seen
     }
 }
 
+#[tactic(auto, unfolding(crate::specs::Reading::after))]
 fn after_minus(b: u8) -> Seen
     ensures { result ≡ after Seen.Minus b }
 {
@@ -65,6 +51,7 @@ fn after_minus(b: u8) -> Seen
     }
 }
 
+#[tactic(auto, unfolding(crate::specs::Reading::after))]
 fn after(seen: Seen, b: u8) -> Seen
     requires { size_seen seen < 10 ^ width }
     ensures { result ≡ after seen b }
@@ -73,8 +60,7 @@ fn after(seen: Seen, b: u8) -> Seen
         Seen::Blanks => after_blanks(b),
         Seen::Minus => after_minus(b),
         Seen::Digits(negative, n) => with_digit(negative, n, b),
-        Seen::Zero => Seen::Other,
-        Seen::Other => Seen::Other,
+        Seen::Zero | Seen::Other => Seen::Other,
     }
 }
 
@@ -82,114 +68,71 @@ fn below(n: usize) -> i32
     requires { n ≤ least_size }
     ensures { result ≡ neg_ℤ (pos n) }
 {
-    0 - (n as i32)
+    -(n as i32)
 }
 
-fn no_number() -> Field
-    ensures { result ≡ no_number }
-{
-    Field {
-        good: false,
-        number: 0,
-    }
-}
-
-fn number_of_digits(negative: bool, n: usize) -> Field
+#[tactic(auto, unfolding(crate::specs::Reading::number_of))]
+fn number_of_digits(negative: bool, n: usize) -> Option<i32>
     ensures { result ≡ number_of (Seen.Digits negative n) }
 {
     if negative {
-        if LEAST_SIZE < n {
-            return no_number();
+        if n <= LEAST_SIZE {
+            Some(below(n))
+        } else {
+            None
         }
-        return Field {
-            good: true,
-            number: below(n),
-        };
-    }
-    if GREATEST < n {
-        return no_number();
-    }
-    Field {
-        good: true,
-        number: crate::above(n),
+    } else if n <= GREATEST {
+        Some(crate::above(n))
+    } else {
+        None
     }
 }
 
-fn number_of(seen: Seen) -> Field
+#[tactic(auto, unfolding(crate::specs::Reading::number_of))]
+fn number_of(seen: Seen) -> Option<i32>
     ensures { result ≡ number_of seen }
 {
     match seen {
-        Seen::Zero => Field {
-            good: true,
-            number: 0,
-        },
+        Seen::Zero => Some(0),
         Seen::Digits(negative, n) => number_of_digits(negative, n),
-        Seen::Blanks => no_number(),
-        Seen::Minus => no_number(),
-        Seen::Other => no_number(),
+        Seen::Blanks | Seen::Minus | Seen::Other => None,
     }
 }
 
 // What the bytes of the field are that starts at a place of a line.
+#[tactic(auto, using(crate::proofs::ReadingLaws::next_seen, crate::proofs::ReadingLaws::seen_small), unfolding(crate::specs::Reading::seen_at))]
 fn seen_at(line: &[u8], at: usize) -> Seen
     requires { at + width ≤ length line.now }
     ensures { result ≡ seen_at line.now at width }
 {
     let mut seen = Seen::Blanks;
-    let mut k = 0;
-    while k < WIDTH {
-        seen = after(seen, line[at + k]);
-        k += 1;
+    for b in &line[at..at + WIDTH] {
+        seen = after(seen, *b);
     }
     seen
 }
 
-// The field that starts at a place of a line.
-pub fn read_field(line: &[u8], at: usize) -> Field
+// The number of the field that starts at a place of a line.
+pub fn read_field(line: &[u8], at: usize) -> Option<i32>
     requires { at + width ≤ length line.now }
     ensures { result ≡ field_at line.now at }
 {
     number_of(seen_at(line, at))
 }
 
-fn no_unsigned() -> Unsigned
-    ensures { result ≡ no_unsigned }
-{
-    Unsigned {
-        good: false,
-        number: 0,
-    }
-}
-
-fn unsigned_of_digits(negative: bool, n: usize) -> Unsigned
-    ensures { result ≡ unsigned_of (Seen.Digits negative n) }
-{
-    if negative {
-        return no_unsigned();
-    }
-    Unsigned {
-        good: true,
-        number: n,
-    }
-}
-
-fn unsigned_of(seen: Seen) -> Unsigned
+#[tactic(auto, unfolding(crate::specs::Reading::unsigned_of))]
+fn unsigned_of(seen: Seen) -> Option<usize>
     ensures { result ≡ unsigned_of seen }
 {
     match seen {
-        Seen::Zero => Unsigned {
-            good: true,
-            number: 0,
-        },
-        Seen::Digits(negative, n) => unsigned_of_digits(negative, n),
-        Seen::Blanks => no_unsigned(),
-        Seen::Minus => no_unsigned(),
-        Seen::Other => no_unsigned(),
+        Seen::Zero => Some(0),
+        Seen::Digits(false, n) => Some(n),
+        Seen::Digits(true, _) | Seen::Blanks | Seen::Minus | Seen::Other => None,
     }
 }
 
-// The same of a number from 0 on, which may be greater than a field's.
-pub fn read_unsigned(line: &[u8], at: usize) -> Unsigned
+// The same of a number from 0 on, of up to ten digits, which may be greater than a field's.
+pub fn read_unsigned(line: &[u8], at: usize) -> Option<usize>
     requires { at + width ≤ length line.now }
     ensures { result ≡ unsigned_at line.now at }
 {

@@ -30,15 +30,13 @@ pub fn write_columns(out: &mut [u8], at: usize, columns: usize, lead: u8, n: usi
     requires { NumberRoom at columns out.old }
     ensures { out.new ≡ put out.old at (number_in columns lead n) }
 {
-    let mut k = columns - 1;
+    out[at + columns - 1] = digit_of(n % 10);
     let mut left = n / 10;
     let mut front = lead;
-    out[at + k] = digit_of(n % 10);
-    while 0 < k {
-        k -= 1;
+    for k in (0..columns - 1).rev() {
         out[at + k] = byte_of(front, left);
         front = lead_after(front, left);
-        left = left / 10;
+        left /= 10;
     }
 }
 
@@ -52,9 +50,10 @@ fn size_of(z: i32) -> usize
     requires { is_writable z ≡ true }
     ensures { result ≡ nat_abs z }
 {
-    if z < 0 { (0 - z) as usize } else { z as usize }
+    z.unsigned_abs() as usize
 }
 
+#[tactic(auto, using(crate::proofs::WritingLaws::field_columns))]
 pub fn write_field(out: &mut [u8], at: usize, z: i32)
     requires { FieldRoom at z out.old }
     ensures { out.new ≡ put out.old at (field_of z) }
