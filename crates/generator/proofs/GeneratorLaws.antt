@@ -21,6 +21,10 @@ times_rest a b m =
 rest_times : (a b m : ℕ) → a % m * b % m ≡ a * b % m
 rest_times a b m = ap (λ (n : ℕ). n % m) (mul_comm (a % m) b) ∙ times_rest b a m ∙ ap (λ (n : ℕ). n % m) (mul_comm b a)
 
+-- a product and a sum, each wrapping
+pub wrapped : (a s c : ℕ) → (a * s % states + c) % states ≡ (a * s + c) % states
+wrapped a s c = mod-add-mod (a * s) states c
+
 -- ---- a map done twice
 
 pub doubled_is : (f : Affine) (s : ℕ) → mapped (doubled f) s ≡ mapped f (mapped f s)

@@ -2,7 +2,6 @@
 -- doubling.
 -- Assumes nothing.
 use Rattle.std.specs.Prelude.{ℕ, zero, suc, ◌+◌, ◌*◌, ◌/◌, ◌%◌, cond, ◌==◌}
-use Rattle.generator.specs.declared.draws.Drawn.{Drawn}
 use Rattle.generator.specs.declared.steps.Affine.{Affine}
 
 -- how many states there are: a state wraps at 32 bits
@@ -29,6 +28,11 @@ abbrev pub steps : ℕ → ℕ → ℕ
 steps = times step
 
 -- ---- draws
+
+-- the state after the step, and what is drawn
+pub record Drawn : Type 0 where
+  pub state : ℕ
+  pub number : ℕ
 
 -- a draw below n: a step first, then the share of n that the state is of all states, rounded down
 abbrev pub draw_below : ℕ → ℕ → Drawn

@@ -6,5 +6,5 @@ mod draws;
 mod jumps;
 mod steps;
 
-pub use draws::{Drawn, draw};
+pub use draws::Generator;
 pub use jumps::jump;

@@ -1,9 +1,6 @@
 // A single step, wrapping at 32 bits, and any other map of that kind.
-ghost use Rattle.std.specs.Prelude.{◌≡◌, ◌*◌, ◌%◌};
-ghost use Rattle.generator.specs.Generator.{states, mapped, one, step};
-
-// How many states there are.
-pub const STATES: u64 = 4294967296;
+ghost use Rattle.std.specs.Prelude.{◌≡◌};
+ghost use Rattle.generator.specs.Generator.{mapped, one, step, doubled};
 
 // A state times the factor, and the term added.
 #[derive(Clone, Copy)]
@@ -12,31 +9,38 @@ pub struct Affine {
     pub term: u32,
 }
 
-// The map of a single step.
-pub fn one() -> Affine
-    ensures { result ≡ one }
-{
-    Affine {
-        factor: 1664525,
-        term: 1013904223,
+impl Affine {
+    // The map of a single step.
+    pub fn one() -> Affine
+        ensures { result ≡ one }
+    {
+        Affine {
+            factor: 1664525,
+            term: 1013904223,
+        }
     }
-}
 
-// The toolchain has no wrapping product: the whole one in 64 bits, of which the lower 32 stay.
-pub fn wrapping_product(a: u32, b: u32) -> u32
-    ensures { result ≡ a * b % states }
-{
-    ((a as u64) * (b as u64) % STATES) as u32
-}
+    // The state that the map makes of another.
+    #[tactic(auto, using(crate::proofs::GeneratorLaws::wrapped))]
+    pub fn applied_to(self, s: u32) -> u32
+        ensures { result ≡ mapped self s }
+    {
+        self.factor.wrapping_mul(s).wrapping_add(self.term)
+    }
 
-pub fn mapped(f: Affine, s: u32) -> u32
-    ensures { result ≡ mapped f s }
-{
-    std::num::wrapping_add_u32(wrapping_product(f.factor, s), f.term)
+    // The map done twice.
+    pub fn doubled(self) -> Affine
+        ensures { result ≡ doubled self }
+    {
+        Affine {
+            factor: self.factor.wrapping_mul(self.factor),
+            term: self.applied_to(self.term),
+        }
+    }
 }
 
 pub fn step(s: u32) -> u32
     ensures { result ≡ step s }
 {
-    mapped(one(), s)
+    Affine::one().applied_to(s)
 }
