@@ -28,14 +28,9 @@ fn write_lines(out: &mut [u8], numbers: &[u16])
     requires { ChartRoom numbers.now out.old }
     ensures { out.new ≡ chart_text }
 {
-    let mut row = 0;
-    while row < SIDE {
-        write_line(
-            out,
-            row * LINE_BYTES,
-            &numbers[row * SIDE..row * SIDE + SIDE],
-        );
-        row += 1;
+    for row in 0..SIDE {
+        let place = row * SIDE;
+        write_line(out, row * LINE_BYTES, &numbers[place..place + SIDE]);
     }
 }
 

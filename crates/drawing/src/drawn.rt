@@ -1,71 +1,91 @@
 // The four shapes, each drawn by way of the others, of half the size, until the side is 1: document 02, A1.
-ghost use Rattle.std.specs.Prelude.{◌≡◌};
-ghost use Rattle.grid.specs.Curve.{IsCurve};
-ghost use Rattle.shapes.specs.Shapes.{ShapeA, ShapeB, ShapeC, ShapeD};
+ghost use Rattle.std.specs.Prelude.{◌≡◌, ◌<◌};
+ghost use Rattle.grid.specs.Curve.{cell, IsCurve};
+ghost use Rattle.shapes.specs.Shapes.{part_of};
 ghost use Rattle.drawing.specs.Needs.{Fits};
-ghost use Rattle.drawing.specs.Drawn.{drawn};
+ghost use Rattle.drawing.specs.Drawn.{shape_of, seen_part, drawn};
 
 use crate::squares::{ORDER, Square, number_cell, quarter};
-use grid::CELLS;
+use grid::{CELLS, Cell};
 
-#[cycle(draw_a_draw_b_draw_c_draw_d)]
-fn draw_a(out: &mut [u16; CELLS], square: Square)
-    requires { Fits square }
-    ensures { out.new ≡ drawn ShapeA square out.old }
-{
-    if square.order == 0 {
-        number_cell(out, square);
-        return;
-    }
-    draw_b(out, quarter(square, 0, 0, 0));
-    draw_a(out, quarter(square, 1, 0, 1));
-    draw_a(out, quarter(square, 2, 1, 1));
-    draw_c(out, quarter(square, 3, 1, 0));
+// The document's A, B, C and D.
+#[derive(Clone, Copy)]
+enum Shape {
+    A,
+    B,
+    C,
+    D,
 }
 
-#[cycle(draw_a_draw_b_draw_c_draw_d)]
-fn draw_b(out: &mut [u16; CELLS], square: Square)
-    requires { Fits square }
-    ensures { out.new ≡ drawn ShapeB square out.old }
-{
-    if square.order == 0 {
-        number_cell(out, square);
-        return;
-    }
-    draw_a(out, quarter(square, 0, 0, 0));
-    draw_b(out, quarter(square, 1, 1, 0));
-    draw_b(out, quarter(square, 2, 1, 1));
-    draw_d(out, quarter(square, 3, 0, 1));
+// One half-size part of a shape: where it lies, as a cell of a square of side 2, and its own shape.
+#[derive(Clone, Copy)]
+struct Part {
+    corner: Cell,
+    shape: Shape,
 }
 
-#[cycle(draw_a_draw_b_draw_c_draw_d)]
-fn draw_c(out: &mut [u16; CELLS], square: Square)
-    requires { Fits square }
-    ensures { out.new ≡ drawn ShapeC square out.old }
-{
-    if square.order == 0 {
-        number_cell(out, square);
-        return;
+// How many parts a shape has.
+const PARTS: usize = 4;
+
+impl Part {
+    fn at(column: usize, row: usize, shape: Shape) -> Part
+        ensures { result ≡ record { corner = cell column row; shape = shape } }
+    {
+        Part {
+            corner: Cell { column, row },
+            shape,
+        }
     }
-    draw_d(out, quarter(square, 0, 1, 1));
-    draw_c(out, quarter(square, 1, 0, 1));
-    draw_c(out, quarter(square, 2, 0, 0));
-    draw_a(out, quarter(square, 3, 1, 0));
 }
 
-#[cycle(draw_a_draw_b_draw_c_draw_d)]
-fn draw_d(out: &mut [u16; CELLS], square: Square)
+impl Shape {
+    // The part that is visited as the n-th, from 0 on.
+    fn part(self, n: usize) -> Part
+        requires { n < 4 }
+        ensures { seen_part result ≡ part_of (shape_of self) n }
+    {
+        let parts = match self {
+            Shape::A => [
+                Part::at(0, 0, Shape::B),
+                Part::at(0, 1, Shape::A),
+                Part::at(1, 1, Shape::A),
+                Part::at(1, 0, Shape::C),
+            ],
+            Shape::B => [
+                Part::at(0, 0, Shape::A),
+                Part::at(1, 0, Shape::B),
+                Part::at(1, 1, Shape::B),
+                Part::at(0, 1, Shape::D),
+            ],
+            Shape::C => [
+                Part::at(1, 1, Shape::D),
+                Part::at(0, 1, Shape::C),
+                Part::at(0, 0, Shape::C),
+                Part::at(1, 0, Shape::A),
+            ],
+            Shape::D => [
+                Part::at(1, 1, Shape::C),
+                Part::at(1, 0, Shape::D),
+                Part::at(0, 0, Shape::D),
+                Part::at(0, 1, Shape::B),
+            ],
+        };
+        parts[n]
+    }
+}
+
+fn draw(out: &mut [u16; CELLS], shape: Shape, square: Square)
     requires { Fits square }
-    ensures { out.new ≡ drawn ShapeD square out.old }
+    ensures { out.new ≡ drawn (shape_of shape) square out.old }
 {
     if square.order == 0 {
         number_cell(out, square);
         return;
     }
-    draw_c(out, quarter(square, 0, 1, 1));
-    draw_d(out, quarter(square, 1, 1, 0));
-    draw_d(out, quarter(square, 2, 0, 0));
-    draw_b(out, quarter(square, 3, 0, 1));
+    for n in 0..PARTS {
+        let part = shape.part(n);
+        draw(out, part.shape, quarter(square, n, part.corner));
+    }
 }
 
 // The curve table of the grid, each cell's number by 32 times its row and its column: shape A drawn in the whole grid.
@@ -73,14 +93,12 @@ pub fn drawn_curve() -> [u16; CELLS]
     ensures { IsCurve result }
 {
     let mut numbers = [0u16; CELLS];
-    draw_a(
-        &mut numbers,
-        Square {
-            order: ORDER,
-            column: 0,
-            row: 0,
-            first: 0,
-        },
-    );
+    let grid = Square {
+        order: ORDER,
+        column: 0,
+        row: 0,
+        first: 0,
+    };
+    draw(&mut numbers, Shape::A, grid);
     numbers
 }

@@ -5,7 +5,7 @@ ghost use Rattle.grid.specs.Curve.{cell};
 ghost use Rattle.drawing.specs.Squares.{quarter_of, table_place};
 ghost use Rattle.drawing.specs.Needs.{Fits, Cuts};
 
-use grid::{CELLS, SIDE};
+use grid::{CELLS, Cell, SIDE};
 
 // 2 to the power of this is the side of the grid.
 pub const ORDER: usize = 5;
@@ -19,40 +19,26 @@ pub struct Square {
     pub first: usize,
 }
 
-// The side of a quarter of this order. A shift would want a proof by hand.
-fn side_of(order: usize) -> usize
-    requires { order < Units.order }
-    ensures { result ≡ 2 ^ order }
-{
-    match order {
-        0 => 1,
-        1 => 2,
-        2 => 4,
-        3 => 8,
-        _ => 16,
-    }
-}
-
-// The quarter that is visited as the part of this number, from 0 on: in the left or the right half, in the lower or the upper one, by 0 or 1.
-pub fn quarter(square: Square, part: usize, right: usize, upper: usize) -> Square
-    requires { Cuts square part (cell right upper) }
-    ensures { result ≡ quarter_of square part (cell right upper) }
+// The quarter at a corner, a cell of a square of side 2, that is visited as the part of this number, from 0 on.
+pub fn quarter(square: Square, part: usize, corner: Cell) -> Square
+    requires { Cuts square part corner }
+    ensures { result ≡ quarter_of square part corner }
 {
     let order = square.order - 1;
     let side = side_of(order);
     Square {
         order,
-        column: square.column + right * side,
-        row: square.row + upper * side,
+        column: square.column + corner.column * side,
+        row: square.row + corner.row * side,
         first: square.first + part * (side * side),
     }
 }
 
-fn narrow(n: usize) -> u16
-    requires { n < Units.cells }
-    ensures { result ≡ n }
+fn side_of(order: usize) -> usize
+    requires { order < Units.order }
+    ensures { result ≡ 2 ^ order }
 {
-    n as u16
+    1 << order
 }
 
 // The number of a square of one cell.
@@ -60,5 +46,5 @@ pub fn number_cell(out: &mut [u16; CELLS], square: Square)
     requires { Fits square }
     ensures { out.new ≡ set out.old (table_place square (cell 0 0)) square.first }
 {
-    out[square.row * SIDE + square.column] = narrow(square.first);
+    out[square.row * SIDE + square.column] = square.first as u16;
 }
