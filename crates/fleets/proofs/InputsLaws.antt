@@ -11,20 +11,17 @@ use borrow.Author.Tests.{leb-true, eqb-true, ltb-true}
 use lib.Dec.{eqb, leb, ltb, lit<}
 use lib.ListN.{length, get_or, take, drop, length-append}
 use lib.Seq.{take-add, take_all, take-suc, drop-drop, get_or-append-add}
-use Rattle.ints.proofs.Parts.{true_false}
+use Rattle.std.specs.Prelude.{Option, Some, None}
 use Rattle.ints.proofs.Truth.{and_left, and_right}
 use Rattle.grid.specs.Units.{capacity}
 use Rattle.fields.specs.Fields.{width}
 use Rattle.fields.specs.Numbers.{in_columns}
-use Rattle.fields.specs.Reading.{unsigned, unsigned_at}
-use Rattle.fields.specs.declared.reading.Unsigned.{Unsigned}
+use Rattle.fields.specs.Reading.{unsigned_at}
 use Rattle.fields.proofs.FieldsLaws.{written_unsigned, read_unsigned_is}
 use Rattle.fields.proofs.NumbersLaws.{length-all-unsigned, part_of-columns}
 use Rattle.generator.specs.Generator.{states}
-use Rattle.fleets.specs.Inputs.{line_columns, is_line, is_fleet, input_of, numbers_say, read_fleet, input_line}
+use Rattle.fleets.specs.Inputs.{line_columns, is_line, is_fleet, fleet_of, three_say, numbers_say, read_fleet, input_line}
 use Rattle.fleets.specs.declared.Fleet.{Fleet}
-use Rattle.fleets.specs.declared.Input.{Input}
-use Rattle.fleets.specs.declared.Input.TheVariants as Input
 
 pub line_long : (input : List ℕ) → is_line input ≡ true → line_columns ≤ length input
 unfolding is_line
@@ -56,79 +53,63 @@ ranges f h =
       skipped = leb-true f.skip f.floats (and_right (start && (some && most)) skip h);
     }
 
--- what three numbers say that were read
-pub numbers_say_lem :
-    (line : List ℕ) (start floats skip : Unsigned)
-    → start ≡ unsigned_at line 0
-    → floats ≡ unsigned_at line width
-    → skip ≡ unsigned_at line (2 * width)
-    → numbers_say line ≡ cond ((start.good && floats.good) && skip.good) (input_of start.number floats.number skip.number) Input.Other
-unfolding numbers_say
-numbers_say_lem line start floats skip e g h = rw (e, g, h)
-
 -- ---- what is read as a fleet
 
--- told apart
-abbrev is_other : Input → Bool
-is_other (Input.Fleet f) = false
-is_other Input.Other = true
-
-abbrev fleet_in : Input → Fleet
-fleet_in (Input.Fleet f) = f
-fleet_in Input.Other = record { start = 0; floats = 0; skip = 0 }
-
 -- past a test that leads to no fleet
-passed : (t : Bool) (x : Input) (f : Fleet) → cond t x Input.Other ≡ Input.Fleet f → (t ≡ true) × (x ≡ Input.Fleet f)
+passed : (t : Bool) (x : Option Fleet) (f : Fleet) → cond t x None ≡ Some f → (t ≡ true) × (x ≡ Some f)
 passed true x f e = (refl, e)
-passed false x f e = absurd (true_false (ap is_other e))
+passed false x f e = cc
 
 -- its three numbers
-abbrev numbers_at : List ℕ → Fleet
-numbers_at input = record {
-  start = (unsigned_at input 0).number;
-  floats = (unsigned_at input width).number;
-  skip = (unsigned_at input (2 * width)).number;
-}
+record Three (start floats skip : Option ℕ) (f : Fleet) : Type 0 where
+  start_is : start ≡ Some f.start
+  floats_are : floats ≡ Some f.floats
+  skip_is : skip ≡ Some f.skip
+  in_range_lem : is_fleet f ≡ true
+
+said_by_three : (start floats skip : Option ℕ) (f : Fleet) → three_say start floats skip ≡ Some f → Three start floats skip f
+unfolding three_say fleet_of
+said_by_three (Some start) (Some floats) (Some skip) f e =
+    let fleet : Fleet = record { start = start; floats = floats; skip = skip } in
+    let range = passed (is_fleet fleet) (Some fleet) f e in
+    let same : fleet ≡ f = some_same range.1 in
+    subst (Three (Some start) (Some floats) (Some skip)) same (record { start_is = refl; floats_are = refl; skip_is = refl; in_range_lem = range.0 })
+  where
+    some_same : {a b : Fleet} → Some a ≡ Some b → a ≡ b
+    some_same h = cc
+said_by_three (Some start) (Some floats) None f e = cc
+said_by_three (Some start) None skip f e = cc
+said_by_three None floats skip f e = cc
 
 pub record ReadAs (input : List ℕ) (f : Fleet) : Type 0 where
   pub is_line_lem : is_line input ≡ true
-  pub start_good : (unsigned_at input 0).good ≡ true
-  pub floats_good : (unsigned_at input width).good ≡ true
-  pub skip_good : (unsigned_at input (2 * width)).good ≡ true
+  pub start_at : unsigned_at input 0 ≡ Some f.start
+  pub floats_at : unsigned_at input width ≡ Some f.floats
+  pub skip_at : unsigned_at input (2 * width) ≡ Some f.skip
   pub in_range_lem : is_fleet f ≡ true
-  pub numbers_are : numbers_at input ≡ f
 
-pub read_as : (input : List ℕ) (f : Fleet) → read_fleet input ≡ Input.Fleet f → ReadAs input f
-unfolding read_fleet numbers_say input_of
+pub read_as : (input : List ℕ) (f : Fleet) → read_fleet input ≡ Some f → ReadAs input f
+unfolding read_fleet numbers_say
 read_as input f e =
-    let start = unsigned_at input 0 in
-    let floats = unsigned_at input width in
-    let skip = unsigned_at input (2 * width) in
     let line = passed (is_line input) (numbers_say input) f e in
-    let good =
-    passed ((start.good && floats.good) && skip.good) (input_of start.number floats.number skip.number) f line.1 in
-    let range = passed (is_fleet (numbers_at input)) (Input.Fleet (numbers_at input)) f good.1 in
-    let same : numbers_at input ≡ f = ap fleet_in range.1 in
-    let both = and_left (start.good && floats.good) skip.good good.0 in
+    let three = said_by_three (unsigned_at input 0) (unsigned_at input width) (unsigned_at input (2 * width)) f line.1 in
     record {
       is_line_lem = line.0;
-      start_good = and_left start.good floats.good both;
-      floats_good = and_right start.good floats.good both;
-      skip_good = and_right (start.good && floats.good) skip.good good.0;
-      in_range_lem = subst (λ (g : Fleet). is_fleet g ≡ true) same range.0;
-      numbers_are = same;
+      start_at = three.start_is;
+      floats_at = three.floats_are;
+      skip_at = three.skip_is;
+      in_range_lem = three.in_range_lem;
     }
 
 -- the columns of its numbers
 columns_are : (input : List ℕ) (f : Fleet) → line_columns ≤ length input → ReadAs input f → take line_columns input ≡ input_line f
 unfolding in_columns
 columns_are input f long r =
-    subst (λ (g : Fleet). take 30 input ≡ input_line g) r.numbers_are
-    (take-add 10 20 input
-    ∙ ap₂ ◌++◌ (read_unsigned_is input 0 (omega arith) r.start_good)
+    take-add 10 20 input
+    ∙ ap₂ ◌++◌ (read_unsigned_is input 0 f.start (omega arith) r.start_at)
     (take-add 10 10 (drop 10 input)
-    ∙ ap₂ ◌++◌ (read_unsigned_is input 10 (omega arith) r.floats_good)
-    (ap (take 10) (drop-drop 10 10 input) ∙ read_unsigned_is input 20 (omega arith) r.skip_good ∙ sym (append-nil _))))
+    ∙ ap₂ ◌++◌ (read_unsigned_is input 10 f.floats (omega arith) r.floats_at)
+    (ap (take 10) (drop-drop 10 10 input) ∙ read_unsigned_is input 20 f.skip (omega arith) r.skip_at ∙ sym (append-nil _)))
 
 -- with a newline or without
 pub only_its_line : (input : List ℕ) (f : Fleet) → ReadAs input f → (input ≡ input_line f) ⊎ (input ≡ input_line f ++ 10 ∷ [])
@@ -167,16 +148,18 @@ module _ (f : Fleet) (h : is_fleet f ≡ true) (rest : List ℕ) where
   pub said_length : length said ≡ line_columns + length rest
   said_length = length-append (input_line f) rest ∙ omega (arith, length-all-unsigned numbers small)
 
-  number_said : (i : ℕ) → i < 3 → unsigned_at said (10 * i) ≡ unsigned (get_or numbers i 0)
+  number_said : (i : ℕ) → i < 3 → unsigned_at said (10 * i) ≡ Some (get_or numbers i 0)
   number_said i l =
       written_unsigned said (10 * i) (get_or numbers i 0) (omega (arith, said_length)) (small i) (part_of-columns rest numbers i small l)
 
-  pub line_says : is_line said ≡ true → read_fleet said ≡ Input.Fleet f
-  unfolding read_fleet input_of
-  line_says line =
-      ap (λ (t : Bool). cond t (numbers_say said) Input.Other) line
-      ∙ numbers_say_lem said _ _ _ (sym (number_said 0 (lit< tt))) (sym (number_said 1 (lit< tt))) (sym (number_said 2 (lit< tt)))
-      ∙ ap (λ (t : Bool). cond t (Input.Fleet f) Input.Other) h
+  numbers_said : numbers_say said ≡ Some f
+  unfolding numbers_say three_say fleet_of
+  numbers_said =
+      rw (number_said 0 (lit< tt), number_said 1 (lit< tt), number_said 2 (lit< tt)) (ap (λ (t : Bool). cond t (Some f) None) h)
+
+  pub line_says : is_line said ≡ true → read_fleet said ≡ Some f
+  unfolding read_fleet
+  line_says line = ap (λ (t : Bool). cond t (numbers_say said) None) line ∙ numbers_said
 
 -- the byte behind it
 pub said_behind : (f : Fleet) → is_fleet f ≡ true → (b : ℕ) → get_or (input_line f ++ b ∷ []) line_columns 0 ≡ b

@@ -2,29 +2,34 @@
 -- Assumes nothing.
 use mathlib.Core.Path.{◌≡◌, refl}
 use Prim.Native.Nat.{ℕ, ◌<◌}
+use lib.Dec.{lit<}
 use lib.IntN.{pos, ◌-ℤ◌}
 use Rattle.grid.specs.Reports.{report_of}
 use Rattle.grid.specs.Units.{speed_limit}
 use Rattle.generator.specs.Generator.{times, draw_below}
-use Rattle.generator.specs.declared.draws.Drawn.{Drawn}
 use Rattle.generator.proofs.GeneratorLaws.{draw_below_lem}
 use Rattle.fleets.specs.Fleets.{positions, speeds, float_of}
 use Rattle.fleets.specs.Making.{Makes}
 
+-- a draw from a state, and the state that it leaves
+pub record Draws (n s number state : ℕ) : Type 0 where
+  pub drawn : number ≡ (draw_below n s).number
+  pub stepped : state ≡ (draw_below n s).state
+
 pub makes :
-    (k s : ℕ) (x y vx vy : Drawn)
-    → x ≡ draw_below positions s
-    → y ≡ draw_below positions x.state
-    → vx ≡ draw_below speeds y.state
-    → vy ≡ draw_below speeds vx.state
-    → Makes k s
-    record {
-      report = report_of (pos k) (pos 0) (pos x.number) (pos y.number) (pos vx.number -ℤ pos speed_limit) (pos vy.number -ℤ pos speed_limit);
-      state = vy.state;
-    }
+    (k s : ℕ) {x y vx vy a b c d : ℕ}
+    → Draws positions s x a
+    → Draws positions a y b
+    → Draws speeds b vx c
+    → Draws speeds c vy d
+    → Makes k s (report_of (pos k) (pos 0) (pos x) (pos y) (pos vx -ℤ pos speed_limit) (pos vy -ℤ pos speed_limit)) d
 unfolding float_of times
-makes k s x y vx vy a b c d = rw (d, c, b, a) record { report_is = refl; state_is = refl }
+makes k s one two three four =
+    rw (four.drawn, four.stepped, three.drawn, three.stepped, two.drawn, two.stepped, one.drawn, one.stepped) record { report_is = refl; state_is = refl }
 
 -- what was drawn below a number
-pub drawn_below : (n s : ℕ) (d : Drawn) → d ≡ draw_below n s → 0 < n → d.number < n
-drawn_below n s d e h = rw e (draw_below_lem n s h)
+pub position_below : (s x : ℕ) → x ≡ (draw_below positions s).number → x < positions
+position_below s x e = rw e (draw_below_lem positions s (lit< tt))
+
+pub speed_below : (s v : ℕ) → v ≡ (draw_below speeds s).number → v < speeds
+speed_below s v e = rw e (draw_below_lem speeds s (lit< tt))

@@ -1,6 +1,6 @@
 -- What is claimed of the fleet program's input and lines: document 02, A5. The proofs are in proofs/Claims.antt.
 -- Assumes nothing.
-use Rattle.std.specs.Prelude.{◌≡◌, true, List, [], ◌∷◌, ◌++◌, map, ◌⊎◌, ℕ, zero, suc, ◌+◌, ◌-◌, ◌*◌, ◌<◌, pos, length}
+use Rattle.std.specs.Prelude.{◌≡◌, true, List, [], ◌∷◌, ◌++◌, map, ◌⊎◌, ℕ, zero, suc, ◌+◌, ◌-◌, ◌*◌, ◌<◌, pos, length, Some}
 use Prim.Native.Char.{code}
 use Rattle.grid.specs.declared.Report.{Report}
 use Rattle.ledger.specs.Calls.{Fed, Reply, replies}
@@ -14,14 +14,13 @@ use Rattle.lines.specs.Reading.{read_line}
 use Rattle.fleets.specs.Inputs.{line_columns, is_fleet, read_fleet, input_line}
 use Rattle.fleets.specs.Fleets.{draws, floats_after, written_floats, add_of, other_text, fleet_text}
 use Rattle.fleets.specs.declared.Fleet.{Fleet}
-use Rattle.fleets.specs.declared.Input.TheVariants as Input
 
 -- ---- the input
 
 -- a fleet in its ranges is said by its line, with a newline or without
 pub record Said (f : Fleet) : Type 0 where
-  pub bare : read_fleet (input_line f) ≡ Input.Fleet f
-  pub ended : read_fleet (input_line f ++ code "\n" ∷ []) ≡ Input.Fleet f
+  pub bare : read_fleet (input_line f) ≡ Some f
+  pub ended : read_fleet (input_line f ++ code "\n" ∷ []) ≡ Some f
 
 abbrev pub FleetsAreSaid : Type 0
 FleetsAreSaid = (f : Fleet) → is_fleet f ≡ true → Said f
@@ -32,7 +31,7 @@ pub record SaidBy (input : List ℕ) (f : Fleet) : Type 0 where
   pub line_is : (input ≡ input_line f) ⊎ (input ≡ input_line f ++ code "\n" ∷ [])
 
 abbrev pub OnlyLinesSayFleets : Type 0
-OnlyLinesSayFleets = (input : List ℕ) (f : Fleet) → read_fleet input ≡ Input.Fleet f → SaidBy input f
+OnlyLinesSayFleets = (input : List ℕ) (f : Fleet) → read_fleet input ≡ Some f → SaidBy input f
 
 -- so where more bytes have come than a line and its newline have, whatever follows, "?" is due
 abbrev pub LongInputsSayNone : Type 0

@@ -1,7 +1,7 @@
 -- What the fleet program writes for an input: document 02, A5. Positions are centimetres, speeds centimetres per second, times seconds; a byte is a
 -- number.
 -- Assumes nothing.
-use Rattle.std.specs.Prelude.{List, [], ◌∷◌, ◌++◌, ℕ, zero, suc, ◌+◌, pos, ◌-ℤ◌, drop}
+use Rattle.std.specs.Prelude.{List, [], ◌∷◌, ◌++◌, ℕ, zero, suc, ◌+◌, pos, ◌-ℤ◌, drop, Option, Some, None}
 use Prim.Native.Char.{code}
 use Rattle.grid.specs.Reports.{report_of}
 use Rattle.grid.specs.Units.{last_position, speed_limit}
@@ -14,8 +14,6 @@ use Rattle.lines.specs.declared.Line.{Line}
 use Rattle.lines.specs.declared.Line.TheVariants as Line
 use Rattle.fleets.specs.Inputs.{read_fleet}
 use Rattle.fleets.specs.declared.Fleet.{Fleet}
-use Rattle.fleets.specs.declared.Input.{Input}
-use Rattle.fleets.specs.declared.Input.TheVariants as Input
 
 -- ---- floats
 
@@ -67,9 +65,9 @@ float_lines (r ∷ rs) = float_line r ++ float_lines rs
 abbrev pub other_text : List ℕ
 other_text = code "?" ∷ code "\n" ∷ []
 
-unfoldable pub text_of : Input → List ℕ
-text_of (Input.Fleet f) = float_lines (written_floats f)
-text_of Input.Other = other_text
+unfoldable pub text_of : Option Fleet → List ℕ
+text_of (Some f) = float_lines (written_floats f)
+text_of None = other_text
 
 abbrev pub fleet_text : List ℕ → List ℕ
 fleet_text input = text_of (read_fleet input)

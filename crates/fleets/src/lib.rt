@@ -17,11 +17,3 @@ pub struct Fleet {
     pub floats: usize,
     pub skip: usize,
 }
-
-// What an input says.
-#[derive(Clone, Copy)]
-pub enum Input {
-    Fleet(Fleet),
-    // Any other input.
-    Other,
-}

@@ -1,8 +1,8 @@
 // The input read: one line of three numbers in 10 columns, whose newline may be missing.
 ghost use Rattle.std.specs.Prelude.{◌≡◌, ◌≤◌, length};
-ghost use Rattle.fleets.specs.Inputs.{line_columns, is_line, input_of, numbers_say, read_fleet};
+ghost use Rattle.fleets.specs.Inputs.{line_columns, is_line, fleet_of, numbers_say, read_fleet};
 
-use crate::{Fleet, Input, MOST_FLOATS};
+use crate::{Fleet, MOST_FLOATS};
 use fields::WIDTH;
 use fields::reading::read_unsigned;
 
@@ -16,57 +16,41 @@ fn is_line(input: &[u8]) -> bool
     ensures { result ≡ is_line input.now }
 {
     let columns = NUMBERS * WIDTH;
-    if input.len() == columns {
-        return true;
-    }
-    if input.len() != columns + 1 {
-        return false;
-    }
-    input[columns] == b'\n'
+    input.len() == columns || input.len() == columns + 1 && input[columns] == b'\n'
 }
 
-fn input_of(start: usize, floats: usize, skip: usize) -> Input
-    ensures { result ≡ input_of start floats skip }
+// The fleet of three numbers, each in its range.
+fn fleet_of(start: usize, floats: usize, skip: usize) -> Option<Fleet>
+    ensures { result ≡ fleet_of start floats skip }
 {
-    if LAST_STATE < start {
-        return Input::Other;
+    if start <= LAST_STATE && (1..=MOST_FLOATS).contains(&floats) && skip <= floats {
+        Some(Fleet {
+            start: start as u32,
+            floats,
+            skip,
+        })
+    } else {
+        None
     }
-    if floats == 0 {
-        return Input::Other;
-    }
-    if MOST_FLOATS < floats {
-        return Input::Other;
-    }
-    if floats < skip {
-        return Input::Other;
-    }
-    Input::Fleet(Fleet {
-        start: start as u32,
-        floats,
-        skip,
-    })
 }
 
-fn read_numbers(line: &[u8]) -> Input
+fn read_numbers(line: &[u8]) -> Option<Fleet>
     requires { line_columns ≤ length line.now }
     ensures { result ≡ numbers_say line.now }
 {
-    let start = read_unsigned(line, 0);
-    let floats = read_unsigned(line, WIDTH);
-    let skip = read_unsigned(line, 2 * WIDTH);
-    if start.good & floats.good & skip.good {
-        input_of(start.number, floats.number, skip.number)
-    } else {
-        Input::Other
-    }
+    let start = read_unsigned(line, 0)?;
+    let floats = read_unsigned(line, WIDTH)?;
+    let skip = read_unsigned(line, 2 * WIDTH)?;
+    fleet_of(start, floats, skip)
 }
 
-pub fn read_fleet(input: &[u8]) -> Input
+// The fleet that an input says; any other input says none.
+pub fn read_fleet(input: &[u8]) -> Option<Fleet>
     ensures { result ≡ read_fleet input.now }
 {
     if is_line(input) {
         read_numbers(input)
     } else {
-        Input::Other
+        None
     }
 }

@@ -7,9 +7,9 @@ ghost use Rattle.fleets.specs.Writing.{FloatRoom, FleetRoom, OtherRoom};
 
 use crate::making::make_float;
 use crate::reading::read_fleet;
-use crate::{Fleet, Input, MOST_FLOATS};
+use crate::{Fleet, MOST_FLOATS};
 use fields::WIDTH;
-use generator::jump;
+use generator::{Generator, jump};
 use grid::Report;
 use ledger::{Call, Change};
 use lines::Line;
@@ -40,13 +40,12 @@ fn write_floats(out: &mut [u8], fleet: Fleet) -> usize
     ensures { Written (float_lines (written_floats fleet)) out.old out.new result }
 {
     let count = fleet.floats - fleet.skip;
-    let mut s = jump(DRAWS * (fleet.skip as u64), fleet.start);
-    let mut i = 0;
-    while i < count {
-        let made = make_float(fleet.skip + i + 1, s);
-        write_float(out, FLOAT_BYTES * i, made.report);
-        s = made.state;
-        i += 1;
+    let mut generator = Generator {
+        state: jump(DRAWS * (fleet.skip as u64), fleet.start),
+    };
+    for i in 0..count {
+        let report = make_float(fleet.skip + i + 1, &mut generator);
+        write_float(out, FLOAT_BYTES * i, report);
     }
     FLOAT_BYTES * count
 }
@@ -65,7 +64,7 @@ pub fn write_fleet(input: &[u8], out: &mut [u8; FLEET_BYTES]) -> usize
     ensures { Written (fleet_text input.now) out.old out.new result }
 {
     match read_fleet(input) {
-        Input::Fleet(fleet) => write_floats(out, fleet),
-        Input::Other => write_other(out),
+        Some(fleet) => write_floats(out, fleet),
+        None => write_other(out),
     }
 }

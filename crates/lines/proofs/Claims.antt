@@ -20,7 +20,6 @@ use Rattle.grid.specs.declared.When.TheVariants.{At, During}
 use Rattle.ledger.specs.declared.Change.TheVariants as Change
 use Rattle.ledger.specs.declared.Call.TheVariants as Call
 use Rattle.lines.specs.declared.Line.{Line}
-use Rattle.lines.specs.declared.Line.TheVariants as Line
 use Rattle.fields.specs.Numbers.{are_writable}
 use Rattle.lines.specs.Lines.{line_of, line_length, letter_of, change_numbers, numbers_of, call_line}
 use Rattle.lines.specs.Reading.{numbers_in, are_numbers, has_numbers, call_of, count_of, read_line}

@@ -8,11 +8,18 @@ use native.Mathlib.Omega.{arith}
 use lib.IntN.{ℤ, pos}
 use lib.ListN.{length, get_or, take, drop, length-append, set}
 use lib.Seq.{drop-drop, take-add, take_all, take_at, take-suc}
+use Rattle.std.specs.Prelude.{Option, Some, None, is_some, unwrap_or}
 use Rattle.ints.proofs.Truth.{and_left, and_right}
+use mir.Syntax.{w32, w64}
+use mir.Val.{SFits}
+use mir.Facts.{to_z-of_z}
+use Rattle.ints.proofs.Machine.{back, fits}
+use Rattle.grid.specs.declared.Rect.{Rect}
+use Rattle.fields.specs.Fields.{is_writable}
 use Rattle.fields.specs.Numbers.{fields, are_writable, nth}
-use Rattle.fields.proofs.NumbersLaws.{writable_at, length_fields, fields_append, part_of-fields}
-use Rattle.lines.specs.Lines.{line_of, line_length, Written}
-use Rattle.fields.specs.Reading.{number}
+use Rattle.fields.proofs.WritingLaws.{in_range_lem}
+use Rattle.fields.proofs.NumbersLaws.{writable_at, writable_back, length_fields, fields_append, part_of-fields}
+use Rattle.lines.specs.Lines.{line_of, line_length, rect_numbers, Written}
 use Rattle.lines.specs.Reading.{nth_field, numbers_in, are_numbers}
 use Rattle.fields.specs.Put.{put}
 use Rattle.fields.proofs.FieldsLaws.{part, written_field, read_field_is}
@@ -29,7 +36,7 @@ put_line out letter zs h =
 
 module _ (letter : ℕ) (zs : List ℤ) (h : are_writable zs ≡ true) where
   -- each field of a written line is read to its number
-  field_of-line : (i : ℕ) → i < length zs → nth_field (line_of letter zs) i ≡ number (nth zs i)
+  field_of-line : (i : ℕ) → i < length zs → nth_field (line_of letter zs) i ≡ Some (nth zs i)
   field_of-line i l =
       let e : line_length i ≡ suc (10 * i) = omega arith in
       written_field (line_of letter zs) (line_length i) (nth zs i) (omega (arith, length_fields zs h)) (writable_at zs i h l)
@@ -49,17 +56,21 @@ module _ (letter : ℕ) (zs : List ℤ) (h : are_writable zs ≡ true) where
 
 -- ---- a line that is read
 
+some_is : (o : Option ℤ) → is_some o ≡ true → o ≡ Some (unwrap_or o (pos 0))
+some_is (Some z) h = refl
+some_is None h = cc
+
 fields_read : (line : List ℕ) (k : ℕ) → line_length k ≤ length line → are_numbers line k ≡ true → take (10 * k) (drop 1 line) ≡ fields (numbers_in line k)
 unfolding fields numbers_in are_numbers
 fields_read line zero h g = refl
 fields_read line (suc k) h g =
     let e : 10 * suc k ≡ 10 * k + 10 = omega arith in
-    let fine = and_left (are_numbers line k) (nth_field line k).good g in
-    let last = and_right (are_numbers line k) (nth_field line k).good g in
+    let fine = and_left (are_numbers line k) (is_some (nth_field line k)) g in
+    let last = and_right (are_numbers line k) (is_some (nth_field line k)) g in
     ap (λ (n : ℕ). take n (drop 1 line)) e
     ∙ take-add (10 * k) 10 (drop 1 line)
-    ∙ ap₂ ◌++◌ (fields_read line k (omega arith) fine) (ap (take 10) (drop-drop (10 * k) 1 line) ∙ read_field_is line (line_length k) (omega arith) last ∙ sym (append-nil _))
-    ∙ sym (fields_append (numbers_in line k) ((nth_field line k).number ∷ []))
+    ∙ ap₂ ◌++◌ (fields_read line k (omega arith) fine) (ap (take 10) (drop-drop (10 * k) 1 line) ∙ read_field_is line (line_length k) _ (omega arith) (some_is (nth_field line k) last) ∙ sym (append-nil _))
+    ∙ sym (fields_append (numbers_in line k) (unwrap_or (nth_field line k) (pos 0) ∷ []))
 
 pub line_read : (line : List ℕ) (k : ℕ) → length line ≡ line_length k → are_numbers line k ≡ true → line ≡ line_of (get_or line 0 0) (numbers_in line k)
 line_read [] k h g = absurd (omega arith)
@@ -96,3 +107,25 @@ module _ {text before after : List ℕ} {n : ℕ} (w : Written text before after
 
   pub written_front : take n after ≡ text
   written_front = ap (take n) w.bytes ∙ take_at text (drop (length text) before) n (sym w.count)
+
+-- ---- a rectangle's numbers
+
+module _ (q : Rect) (h : are_writable (rect_numbers q) ≡ true) where
+  rect_number : (i : ℕ) → i < 4 → is_writable (nth (rect_numbers q) i) ≡ true
+  rect_number i l = writable_at (rect_numbers q) i h l
+
+  wide_back : (i : ℕ) → i < 4 → back w64 (nth (rect_numbers q) i) ≡ nth (rect_numbers q) i
+  wide_back i l = to_z-of_z {w = w64} (fits (omega (arith, in_range_lem (nth (rect_numbers q) i) (rect_number i l))))
+
+  -- each fits 32 bits
+  pub narrow : (i : ℕ) → i < 4 → SFits w32 (back w64 (nth (rect_numbers q) i))
+  narrow i l = rw (wide_back i l) (fits (omega (arith, in_range_lem (nth (rect_numbers q) i) (rect_number i l))))
+
+  narrowed : (i : ℕ) → i < 4 → back w32 (back w64 (nth (rect_numbers q) i)) ≡ nth (rect_numbers q) i
+  narrowed i l = ap (back w32) (wide_back i l) ∙ writable_back (nth (rect_numbers q) i) (rect_number i l)
+
+  pub corners_back : back w32 (back w64 q.x.low) ∷ back w32 (back w64 q.y.low) ∷ back w32 (back w64 q.x.high) ∷ back w32 (back w64 q.y.high) ∷ [] ≡ rect_numbers q
+  corners_back = four (narrowed 0 (omega arith)) (narrowed 1 (omega arith)) (narrowed 2 (omega arith)) (narrowed 3 (omega arith))
+    where
+      four : {a b c d a' b' c' d' : ℤ} → a ≡ a' → b ≡ b' → c ≡ c' → d ≡ d' → a ∷ b ∷ c ∷ d ∷ [] ≡ a' ∷ b' ∷ c' ∷ d' ∷ []
+      four e f g h = cc

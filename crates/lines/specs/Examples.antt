@@ -10,7 +10,6 @@ use Rattle.ledger.specs.declared.Change.{Change}
 use Rattle.ledger.specs.declared.Change.TheVariants.{Add, Drop}
 use Rattle.ledger.specs.declared.Call.TheVariants as Call
 use Rattle.lines.specs.declared.Line.{Line}
-use Rattle.lines.specs.declared.Line.TheVariants as Line
 
 -- the bytes of a text that has no letter but those of ASCII
 unfoldable pub bytes : String → List ℕ

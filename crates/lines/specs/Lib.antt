@@ -2,4 +2,3 @@ pub mod Lines
 pub mod Reading
 pub mod Claims
 pub mod Examples
-pub mod Writing

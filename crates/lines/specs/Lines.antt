@@ -8,12 +8,10 @@ use Rattle.grid.specs.declared.When.{When}
 use Rattle.grid.specs.declared.When.TheVariants.{At, During}
 use Rattle.ledger.specs.declared.Ask.{Ask}
 use Rattle.ledger.specs.declared.Change.{Change}
-use Rattle.ledger.specs.declared.Change.TheVariants as Change
 use Rattle.ledger.specs.declared.Call.TheVariants as Call
 use Rattle.fields.specs.Fields.{width}
 use Rattle.fields.specs.Numbers.{fields, are_writable}
 use Rattle.lines.specs.declared.Line.{Line}
-use Rattle.lines.specs.declared.Line.TheVariants as Line
 
 -- ---- lines
 

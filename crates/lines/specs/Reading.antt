@@ -1,6 +1,6 @@
 -- How a call line is read. That a line is read exactly to the call that writes it is proved in proofs/Claims.antt.
 -- Assumes nothing.
-use Rattle.std.specs.Prelude.{◌≡◌, Bool, true, cond, ◌&&◌, List, [], ◌∷◌, ◌++◌, ℕ, zero, suc, ◌+◌, ◌-◌, eqb, ℤ, pos, length, get_or, replicate}
+use Rattle.std.specs.Prelude.{◌≡◌, Bool, true, cond, ◌&&◌, List, [], ◌∷◌, ◌++◌, ℕ, zero, suc, ◌-◌, eqb, ℤ, pos, length, get_or, replicate, Option, Some, None, is_some, unwrap_or}
 use Prim.Native.Char.{code}
 use Rattle.grid.specs.Reports.{report_of}
 use Rattle.grid.specs.declared.Report.{Report}
@@ -9,25 +9,22 @@ use Rattle.ledger.specs.declared.Ask.{Ask}
 use Rattle.ledger.specs.declared.Change.TheVariants as Change
 use Rattle.ledger.specs.declared.Call.TheVariants as Call
 use Rattle.lines.specs.declared.Line.{Line}
-use Rattle.lines.specs.declared.Line.TheVariants as Line
-use Rattle.fields.specs.declared.reading.Field.{Field}
-use Rattle.lines.specs.declared.reading.Numbers.{Numbers}
 use Rattle.fields.specs.Numbers.{nth}
 use Rattle.fields.specs.Reading.{field_at}
 use Rattle.lines.specs.Lines.{most_numbers, line_length, numbers_of}
 
 -- the field of a line's i-th number, from 0 on
-abbrev pub nth_field : List ℕ → ℕ → Field
+abbrev pub nth_field : List ℕ → ℕ → Option ℤ
 nth_field line i = field_at line (line_length i)
 
 -- its first k numbers, and whether each of these fields has one
 unfoldable pub numbers_in : List ℕ → ℕ → List ℤ
 numbers_in line zero = []
-numbers_in line (suc k) = numbers_in line k ++ (nth_field line k).number ∷ []
+numbers_in line (suc k) = numbers_in line k ++ unwrap_or (nth_field line k) (pos 0) ∷ []
 
 unfoldable pub are_numbers : List ℕ → ℕ → Bool
 are_numbers line zero = true
-are_numbers line (suc k) = are_numbers line k && (nth_field line k).good
+are_numbers line (suc k) = are_numbers line k && is_some (nth_field line k)
 
 -- a letter, k numbers and nothing more
 abbrev pub has_numbers : List ℕ → ℕ → Bool
@@ -64,8 +61,13 @@ read_line line =
     let count = count_of letter in
     cond (has_numbers line count) (call_of letter (numbers_in line count)) Line.NoCall
 
--- ---- what `read_numbers` leaves: 0 past the numbers of a good line
+-- ---- what the reading functions give
 
-pub record Reads (line : List ℕ) (count : ℕ) (r : Numbers) : Type 0 where
-  pub good_is : r.good ≡ has_numbers line count
-  pub numbers_are : r.good ≡ true → r.numbers ≡ numbers_in line count ++ replicate (most_numbers - count) (pos 0)
+-- the numbers of a line that has just so many, with 0 past them
+abbrev pub numbers_read : List ℕ → ℕ → Option (List ℤ)
+numbers_read line count =
+    cond (has_numbers line count) (Some (numbers_in line count ++ replicate (most_numbers - count) (pos 0))) None
+
+-- a letter that begins no call, whatever follows
+abbrev pub BeginsNone : ℕ → Type 0
+BeginsNone letter = (ns : List ℤ) → call_of letter ns ≡ Line.NoCall

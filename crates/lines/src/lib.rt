@@ -13,7 +13,7 @@ pub const MOST_NUMBERS: usize = 8;
 // The bytes of a call line that has them.
 pub const LONGEST_CALL: usize = 1 + WIDTH * MOST_NUMBERS;
 
-// What a line says.
+// What a line says: document 01 has these three kinds, and a line that is no call has an answer of its own.
 #[derive(Clone, Copy)]
 pub enum Line {
     // The time.

@@ -1,7 +1,7 @@
 // A call line read: its numbers one by one, then the call of its letter.
-ghost use Rattle.std.specs.Prelude.{◌≡◌, true, false, ◌+◌, ◌<◌, ◌≤◌};
+ghost use Rattle.std.specs.Prelude.{◌≡◌, ◌≤◌, MatchOption};
 ghost use Rattle.lines.specs.Lines.{most_numbers};
-ghost use Rattle.lines.specs.Reading.{Reads, report_in, ask_in, window_in, call_of, count_of, read_line};
+ghost use Rattle.lines.specs.Reading.{numbers_read, report_in, BeginsNone, call_of, count_of, read_line};
 
 use crate::{Line, MOST_NUMBERS};
 use fields::WIDTH;
@@ -9,49 +9,32 @@ use fields::reading::read_field;
 use grid::Report;
 use ledger::{Ask, Call, Change};
 
-// The numbers of a line, 0 past its count; good where it has just these.
-#[derive(Clone, Copy)]
-pub struct Numbers {
-    pub good: bool,
-    pub numbers: [i32; MOST_NUMBERS],
-}
-
-fn read_numbers(line: &[u8], count: usize) -> Numbers
+// The numbers of a line that has just so many and nothing more, with 0 past them.
+fn read_numbers(line: &[u8], count: usize) -> Option<[i32; MOST_NUMBERS]>
     requires { count ≤ most_numbers }
-    ensures { Reads line.now count result }
+    ensures { result ≡ numbers_read line.now count }
 {
-    let mut numbers = [0i32; MOST_NUMBERS];
     if line.len() != 1 + WIDTH * count {
-        return Numbers {
-            good: false,
-            numbers,
-        };
+        return None;
     }
-    let mut good = true;
-    let mut k = 0;
-    while k < count {
-        let field = read_field(line, 1 + WIDTH * k);
-        let number = field.number;
-        good = good & field.good;
-        numbers[k] = number;
-        k += 1;
+    let mut numbers = [0; MOST_NUMBERS];
+    for k in 0..count {
+        numbers[k] = read_field(line, 1 + WIDTH * k)?;
     }
-    Numbers { good, numbers }
+    Some(numbers)
 }
 
-// How many numbers follow a letter; 0 where it begins no call.
-fn count_of(letter: u8) -> usize
-    ensures { result ≡ count_of letter }
+// How many numbers follow a letter that begins a call.
+#[tactic(auto, unfolding(crate::specs::Lines::change_numbers, crate::specs::Lines::numbers_of, crate::specs::Reading::call_of, crate::specs::Reading::count_of))]
+fn count_of(letter: u8) -> Option<usize>
+    ensures { MatchOption result (BeginsNone letter) (λ n. n ≡ count_of letter) }
 {
     match letter {
-        b'O' => 1,
-        b'C' => 1,
-        b'A' => 6,
-        b'U' => 6,
-        b'D' => 2,
-        b'Q' => 6,
-        b'W' => 7,
-        _ => 0,
+        b'O' | b'C' => Some(1),
+        b'D' => Some(2),
+        b'A' | b'U' | b'Q' => Some(6),
+        b'W' => Some(7),
+        _ => None,
     }
 }
 
@@ -68,18 +51,7 @@ fn report_of(n: &[i32; MOST_NUMBERS]) -> Report
     }
 }
 
-fn ask_of(n: &[i32; MOST_NUMBERS]) -> Ask
-    ensures { result ≡ ask_in n.now }
-{
-    Ask::of(n[0], n[1], n[2], n[3], n[4], n[5])
-}
-
-fn window_of(n: &[i32; MOST_NUMBERS]) -> Ask
-    ensures { result ≡ window_in n.now }
-{
-    Ask::window(n[0], n[1], n[2], n[3], n[4], n[5], n[6])
-}
-
+#[tactic(auto, unfolding(crate::specs::Reading::call_of))]
 fn call_of(letter: u8, n: &[i32; MOST_NUMBERS]) -> Line
     ensures { result ≡ call_of letter n.now }
 {
@@ -89,24 +61,24 @@ fn call_of(letter: u8, n: &[i32; MOST_NUMBERS]) -> Line
         b'A' => Line::Call(Call::Change(Change::Add(report_of(n)))),
         b'U' => Line::Call(Call::Change(Change::Report(report_of(n)))),
         b'D' => Line::Call(Call::Change(Change::Drop(n[0], n[1]))),
-        b'Q' => Line::Call(Call::Ask(ask_of(n))),
-        b'W' => Line::Call(Call::Ask(window_of(n))),
+        b'Q' => Line::Call(Call::Ask(Ask::of(n[0], n[1], n[2], n[3], n[4], n[5]))),
+        b'W' => Line::Call(Call::Ask(Ask::window(n[0], n[1], n[2], n[3], n[4], n[5], n[6]))),
         _ => Line::NoCall,
     }
 }
 
+#[tactic(auto, using(crate::proofs::ReadingLaws::few_follow, crate::proofs::ReadingLaws::empty_read, crate::proofs::ReadingLaws::other_letter, crate::proofs::ReadingLaws::some_read, crate::proofs::ReadingLaws::none_read))]
 pub fn read_call(line: &[u8]) -> Line
     ensures { result ≡ read_line line.now }
 {
-    if line.len() == 0 {
+    let Some(&letter) = line.first() else {
         return Line::NoCall;
-    }
-    let letter = line[0];
-    let read = read_numbers(line, count_of(letter));
-    if read.good {
-        let numbers = read.numbers;
-        call_of(letter, &numbers)
-    } else {
-        Line::NoCall
+    };
+    let Some(count) = count_of(letter) else {
+        return Line::NoCall;
+    };
+    match read_numbers(line, count) {
+        Some(numbers) => call_of(letter, &numbers),
+        None => Line::NoCall,
     }
 }
