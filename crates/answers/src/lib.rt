@@ -2,7 +2,6 @@
 #![tactic(auto)]
 
 ghost use Rattle.std.specs.Prelude.{◌≤◌, [], ◌∷◌, length, pos};
-ghost use Rattle.ledger.specs.declared.Answer.TheVariants as Answers;
 ghost use Rattle.lines.specs.Lines.{line_length, line_of, Room, Written};
 ghost use Rattle.answers.specs.Answers.{answer_line, no_call_line, AnswerRoom};
 
@@ -19,35 +18,16 @@ fn write_start(letter: u8, number: usize, value: usize, out: &mut [u8]) -> usize
     requires { Room (pos number ∷ pos value ∷ []) out.old }
     ensures { Written (line_of letter (pos number ∷ pos value ∷ [])) out.old out.new result }
 {
-    let numbers = [above(number), above(value)];
-    write_line(letter, &numbers, out)
+    write_line(letter, &[above(number), above(value)], out)
 }
 
 // The line of what is no call: `?`, 9, 0.
+#[tactic(auto, unfolding(ints::specs::Lists::every, lines::specs::Lines::letter_of, crate::specs::Answers::no_call_line))]
 pub fn write_no_call(out: &mut [u8]) -> usize
     requires { line_length 2 ≤ length out.old }
     ensures { Written no_call_line out.old out.new result }
 {
     write_start(b'?', 9, 0, out)
-}
-
-// An accepted ask's line: the ids listed, cells, useful and rounds, then the ids.
-fn write_listing(
-    letter: u8,
-    listed: usize,
-    cells: usize,
-    useful: usize,
-    rounds: usize,
-    ids: &[u16],
-    out: &mut [u8],
-) -> usize
-    requires { AnswerRoom (Answers.Listed listed cells useful rounds) ids.now out.old }
-    ensures { Written (answer_line letter (Answers.Listed listed cells useful rounds) ids.now) out.old out.new result }
-{
-    let numbers = [0, above(listed), above(cells), above(useful), above(rounds)];
-    let end = write_line(letter, &numbers, out);
-    write_ids(out, end, ids);
-    end + WIDTH * ids.len()
 }
 
 // An answer's line in front, the rest kept; the bytes written are returned.
@@ -57,9 +37,13 @@ pub fn write_answer(letter: u8, answer: Answer, ids: &[u16], out: &mut [u8]) -> 
 {
     match answer {
         Answer::Accepted(held) => write_start(letter, 0, held, out),
-        Answer::Listed(listed, cells, useful, rounds) => write_listing(
-            letter, listed, cells, useful, rounds, ids, out,
-        ),
+        // the ids listed, cells, useful and rounds, then the ids
+        Answer::Listed(listed, cells, useful, rounds) => {
+            let numbers = [0, above(listed), above(cells), above(useful), above(rounds)];
+            let end = write_line(letter, &numbers, out);
+            write_ids(out, end, ids);
+            end + WIDTH * ids.len()
+        }
         Answer::Refused(why) => write_start(letter, why.number(), why.value(), out),
     }
 }

@@ -11,7 +11,6 @@ use Rattle.ledger.specs.declared.Change.TheVariants as Change
 use Rattle.generator.specs.Generator.{steps, draw_below}
 use Rattle.lines.specs.Lines.{call_line}
 use Rattle.lines.specs.declared.Line.{Line}
-use Rattle.lines.specs.declared.Line.TheVariants as Line
 use Rattle.fleets.specs.Inputs.{read_fleet}
 use Rattle.fleets.specs.declared.Fleet.{Fleet}
 

@@ -12,6 +12,7 @@ const NUMBERS: usize = 3;
 // The last state.
 const LAST_STATE: usize = 4294967295;
 
+#[tactic(auto, unfolding(crate::specs::Inputs::is_line))]
 fn is_line(input: &[u8]) -> bool
     ensures { result ≡ is_line input.now }
 {
@@ -20,6 +21,7 @@ fn is_line(input: &[u8]) -> bool
 }
 
 // The fleet of three numbers, each in its range.
+#[tactic(auto, unfolding(crate::specs::Inputs::is_fleet, crate::specs::Inputs::fleet_of))]
 fn fleet_of(start: usize, floats: usize, skip: usize) -> Option<Fleet>
     ensures { result ≡ fleet_of start floats skip }
 {
@@ -34,6 +36,7 @@ fn fleet_of(start: usize, floats: usize, skip: usize) -> Option<Fleet>
     }
 }
 
+#[tactic(auto, unfolding(crate::specs::Inputs::three_say, crate::specs::Inputs::numbers_say))]
 fn read_numbers(line: &[u8]) -> Option<Fleet>
     requires { line_columns ≤ length line.now }
     ensures { result ≡ numbers_say line.now }
@@ -45,6 +48,7 @@ fn read_numbers(line: &[u8]) -> Option<Fleet>
 }
 
 // The fleet that an input says; any other input says none.
+#[tactic(auto, using(crate::proofs::InputsLaws::line_long), unfolding(crate::specs::Inputs::read_fleet))]
 pub fn read_fleet(input: &[u8]) -> Option<Fleet>
     ensures { result ≡ read_fleet input.now }
 {

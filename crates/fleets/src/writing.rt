@@ -60,6 +60,7 @@ fn write_other(out: &mut [u8]) -> usize
 }
 
 // What is due for an input, in front of some bytes whose rest is kept; the bytes written are returned.
+#[tactic(auto, unfolding(crate::specs::Fleets::text_of))]
 pub fn write_fleet(input: &[u8], out: &mut [u8; FLEET_BYTES]) -> usize
     ensures { Written (fleet_text input.now) out.old out.new result }
 {

@@ -7,6 +7,7 @@ use mathlib.Core.List.{List, [], ◌∷◌, ◌++◌, map, append_assoc, append-
 use Prim.Native.Nat.{ℕ, zero, suc, ◌+◌, ◌-◌, ◌≤◌}
 use native.Mathlib.Omega.{arith}
 use lib.IntN.{pos}
+use Rattle.std.specs.Prelude.{Option}
 use Rattle.grid.specs.Units.{capacity, last_id}
 use Rattle.grid.specs.declared.Report.{Report}
 use Rattle.ledger.specs.Calls as L
@@ -19,7 +20,7 @@ use Rattle.lines.specs.declared.Line.{Line}
 use Rattle.lines.proofs.Claims.{read_written}
 use Rattle.fleets.specs.Fleets.{draws, float_of, floats_after, add_of, float_line, float_lines, text_of, fleet_text}
 use Rattle.fleets.specs.Claims.{fed_with}
-use Rattle.fleets.specs.declared.Input.{Input}
+use Rattle.fleets.specs.declared.Fleet.{Fleet}
 use Rattle.fleets.proofs.Claims.{only_lines_say_fleets}
 use Rattle.fleets.proofs.InputsLaws.{ranges}
 use Rattle.fleets.proofs.FleetsLaws.{written_after, float_writable}
@@ -78,7 +79,7 @@ fleet_then_calls input more f e =
     let r = ranges f good in
     let many = f.floats - f.skip in
     let from = written_after f good in
-    ap (λ (i : Input). replayed (text_of i ++ more)) e
+    ap (λ (said : Option Fleet). replayed (text_of said ++ more)) e
     ∙ ap (λ (rs : List Report). replayed (float_lines rs ++ more)) from
     ∙ floats_answered f.skip 0 many _ (opened (pos 0)) more (opened_filled f.skip) (omega (arith, r.most, r.skipped)) (omega (arith, r.most))
     ∙ ap (λ (rs : List Report). accepted_lines 0 many ++ answered (after (opened (pos 0)) (map (fed_with list_length) rs)) (lines_from [] more))

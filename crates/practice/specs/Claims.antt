@@ -1,7 +1,7 @@
 -- What is claimed of the fleet program's lines as the replay program's input: document 02, A5. Each float is accepted, and the calls behind them are
 -- answered with the whole fleet held. The proofs are in proofs/Claims.antt.
 -- Assumes nothing.
-use Rattle.std.specs.Prelude.{◌≡◌, List, [], ◌∷◌, ◌++◌, map, ℕ, zero, suc, ◌-◌, pos}
+use Rattle.std.specs.Prelude.{◌≡◌, List, [], ◌∷◌, ◌++◌, map, ℕ, zero, suc, ◌-◌, pos, Some}
 use Prim.Native.Char.{code}
 use Rattle.ledger.specs.Calls.{after}
 use Rattle.ledger.specs.Machine.{Ledger, opened}
@@ -10,7 +10,6 @@ use Rattle.fleets.specs.Inputs.{read_fleet}
 use Rattle.fleets.specs.Fleets.{written_floats, fleet_text}
 use Rattle.fleets.specs.Claims.{fed_with}
 use Rattle.fleets.specs.declared.Fleet.{Fleet}
-use Rattle.fleets.specs.declared.Input.TheVariants as Input
 use Rattle.answers.specs.Answers.{answer_line}
 use Rattle.answering.specs.Replay.{newline, list_length, lines_from, answered, replayed}
 
@@ -32,10 +31,10 @@ after_fleet f = after (opened (pos 0)) (map (fed_with list_length) (written_floa
 abbrev pub FleetThenCalls : Type 0
 FleetThenCalls =
     (input more : List ℕ) (f : Fleet)
-    → read_fleet input ≡ Input.Fleet f
+    → read_fleet input ≡ Some f
     → replayed (fleet_text input ++ more) ≡ accepted_lines 0 (f.floats - f.skip) ++ answered (after_fleet f) (lines_from [] more)
 
 -- with nothing behind them, these answers are all
 abbrev pub FleetIsReplayed : Type 0
 FleetIsReplayed =
-    (input : List ℕ) (f : Fleet) → read_fleet input ≡ Input.Fleet f → replayed (fleet_text input) ≡ accepted_lines 0 (f.floats - f.skip)
+    (input : List ℕ) (f : Fleet) → read_fleet input ≡ Some f → replayed (fleet_text input) ≡ accepted_lines 0 (f.floats - f.skip)
