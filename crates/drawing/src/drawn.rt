@@ -5,7 +5,7 @@ ghost use Rattle.shapes.specs.Shapes.{part_of};
 ghost use Rattle.drawing.specs.Needs.{Fits};
 ghost use Rattle.drawing.specs.Drawn.{shape_of, seen_part, drawn};
 
-use crate::squares::{ORDER, Square, number_cell, quarter};
+use crate::squares::{ORDER, Square};
 use grid::{CELLS, Cell};
 
 // The document's A, B, C and D.
@@ -79,12 +79,12 @@ fn draw(out: &mut [u16; CELLS], shape: Shape, square: Square)
     ensures { out.new ≡ drawn (shape_of shape) square out.old }
 {
     if square.order == 0 {
-        number_cell(out, square);
+        square.number_cell(out);
         return;
     }
     for n in 0..PARTS {
         let part = shape.part(n);
-        draw(out, part.shape, quarter(square, n, part.corner));
+        draw(out, part.shape, square.quarter(n, part.corner));
     }
 }
 

@@ -19,18 +19,28 @@ pub struct Square {
     pub first: usize,
 }
 
-// The quarter at a corner, a cell of a square of side 2, that is visited as the part of this number, from 0 on.
-pub fn quarter(square: Square, part: usize, corner: Cell) -> Square
-    requires { Cuts square part corner }
-    ensures { result ≡ quarter_of square part corner }
-{
-    let order = square.order - 1;
-    let side = side_of(order);
-    Square {
-        order,
-        column: square.column + corner.column * side,
-        row: square.row + corner.row * side,
-        first: square.first + part * (side * side),
+impl Square {
+    // The quarter at a corner, a cell of a square of side 2, that is visited as the part of this number, from 0 on.
+    pub fn quarter(self, part: usize, corner: Cell) -> Square
+        requires { Cuts self part corner }
+        ensures { result ≡ quarter_of self part corner }
+    {
+        let order = self.order - 1;
+        let side = side_of(order);
+        Square {
+            order,
+            column: self.column + corner.column * side,
+            row: self.row + corner.row * side,
+            first: self.first + part * (side * side),
+        }
+    }
+
+    // The number of a square of one cell.
+    pub fn number_cell(self, out: &mut [u16; CELLS])
+        requires { Fits self }
+        ensures { out.new ≡ set out.old (table_place self (cell 0 0)) self.first }
+    {
+        out[self.row * SIDE + self.column] = self.first as u16;
     }
 }
 
@@ -39,12 +49,4 @@ fn side_of(order: usize) -> usize
     ensures { result ≡ 2 ^ order }
 {
     1 << order
-}
-
-// The number of a square of one cell.
-pub fn number_cell(out: &mut [u16; CELLS], square: Square)
-    requires { Fits square }
-    ensures { out.new ≡ set out.old (table_place square (cell 0 0)) square.first }
-{
-    out[square.row * SIDE + square.column] = square.first as u16;
 }

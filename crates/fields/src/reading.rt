@@ -1,7 +1,7 @@
 // One number read: its bytes one by one, then the number that they are.
 ghost use Rattle.std.specs.Prelude.{◌≡◌, ◌+◌, ◌<◌, ◌≤◌, ◌^◌, length};
 ghost use Rattle.fields.specs.Fields.{width};
-ghost use Rattle.fields.specs.Reading.{size_seen, with_digit, after, number_of, seen_at, field_at, unsigned_of, unsigned_at};
+ghost use Rattle.fields.specs.Reading.{size_seen, after, number_of, seen_at, field_at, unsigned_of, unsigned_at};
 
 use crate::{GREATEST, LEAST_SIZE, WIDTH};
 
@@ -19,50 +19,22 @@ pub enum Seen {
 }
 
 impl Seen {
-    #[tactic(auto, unfolding(crate::specs::Reading::with_digit))]
-    fn with_digit(negative: bool, n: usize, b: u8) -> Seen
-        requires { n < 10 ^ width }
-        ensures { result ≡ with_digit negative n b }
-    {
-        match b {
-            b'0'..=b'9' => Seen::Digits(negative, 10 * n + usize::from(b - b'0')),
-            _ => Seen::Other,
-        }
-    }
-
-    #[tactic(auto, unfolding(crate::specs::Reading::after))]
-    fn after_blanks(b: u8) -> Seen
-        ensures { result ≡ after Seen.Blanks b }
-    {
-        match b {
-            b' ' => Seen::Blanks,
-            b'-' => Seen::Minus,
-            b'0' => Seen::Zero,
-            _ => Seen::with_digit(false, 0, b),
-        }
-    }
-
-    #[tactic(auto, unfolding(crate::specs::Reading::after))]
-    fn after_minus(b: u8) -> Seen
-        ensures { result ≡ after Seen.Minus b }
-    {
-        match b {
-            b'0' => Seen::Other,
-            _ => Seen::with_digit(true, 0, b),
-        }
-    }
-
     // What is seen with one byte more.
-    #[tactic(auto, unfolding(crate::specs::Reading::after))]
+    #[tactic(auto, unfolding(crate::specs::Reading::with_digit, crate::specs::Reading::after))]
     fn after(self, b: u8) -> Seen
         requires { size_seen self < 10 ^ width }
         ensures { result ≡ after self b }
     {
-        match self {
-            Seen::Blanks => Seen::after_blanks(b),
-            Seen::Minus => Seen::after_minus(b),
-            Seen::Digits(negative, n) => Seen::with_digit(negative, n, b),
-            Seen::Zero | Seen::Other => Seen::Other,
+        match (self, b) {
+            (Seen::Blanks, b' ') => Seen::Blanks,
+            (Seen::Blanks, b'-') => Seen::Minus,
+            (Seen::Blanks, b'0') => Seen::Zero,
+            (Seen::Blanks, b'1'..=b'9') => Seen::Digits(false, usize::from(b - b'0')),
+            (Seen::Minus, b'1'..=b'9') => Seen::Digits(true, usize::from(b - b'0')),
+            (Seen::Digits(negative, n), b'0'..=b'9') => {
+                Seen::Digits(negative, 10 * n + usize::from(b - b'0'))
+            }
+            _ => Seen::Other,
         }
     }
 

@@ -15,11 +15,14 @@ use mir.Val.{SFits}
 use mir.Facts.{to_z-of_z}
 use Rattle.ints.proofs.Machine.{back, fits}
 use Rattle.grid.specs.declared.Rect.{Rect}
+use Rattle.grid.specs.declared.When.{When}
+use Rattle.grid.specs.declared.When.TheVariants.{At, During}
+use Rattle.ledger.specs.declared.Ask.{Ask}
 use Rattle.fields.specs.Fields.{is_writable}
 use Rattle.fields.specs.Numbers.{fields, are_writable, nth}
 use Rattle.fields.proofs.WritingLaws.{in_range_lem}
-use Rattle.fields.proofs.NumbersLaws.{writable_at, writable_back, length_fields, fields_append, part_of-fields}
-use Rattle.lines.specs.Lines.{line_of, line_length, rect_numbers, Written}
+use Rattle.fields.proofs.NumbersLaws.{writable_at, writable_back, rest_writable, length_fields, fields_append, part_of-fields}
+use Rattle.lines.specs.Lines.{line_of, line_length, rect_numbers, when_numbers, ask_numbers, Written}
 use Rattle.lines.specs.Reading.{nth_field, numbers_in, are_numbers}
 use Rattle.fields.specs.Put.{put}
 use Rattle.fields.proofs.FieldsLaws.{part, written_field, read_field_is}
@@ -109,6 +112,14 @@ module _ {text before after : List ℕ} {n : ℕ} (w : Written text before after
   written_front = ap (take n) w.bytes ∙ take_at text (drop (length text) before) n (sym w.count)
 
 -- ---- a rectangle's numbers
+
+-- those of an ask
+pub rect_writable : (ask : Ask) → are_writable (ask_numbers ask) ≡ true → are_writable (rect_numbers ask.query.rect) ≡ true
+rect_writable ask h = go ask.query.when (rest_writable ask.method _ h)
+  where
+    go : (when : When) → are_writable (when_numbers when ++ rect_numbers ask.query.rect) ≡ true → are_writable (rect_numbers ask.query.rect) ≡ true
+    go (At time) h = rest_writable time _ h
+    go (During first last) h = rest_writable last _ (rest_writable first _ h)
 
 module _ (q : Rect) (h : are_writable (rect_numbers q) ≡ true) where
   rect_number : (i : ℕ) → i < 4 → is_writable (nth (rect_numbers q) i) ≡ true

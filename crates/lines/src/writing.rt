@@ -1,9 +1,10 @@
 // A call line written in front of some bytes whose rest is kept.
-ghost use Rattle.std.specs.Prelude.{◌≡◌, true, ◌∷◌, ◌+◌, ◌*◌};
-ghost use Rattle.grid.specs.declared.When.TheVariants.{At, During};
+#![tactic(auto, unfolding(crate::specs::Lines::change_numbers, crate::specs::Lines::numbers_of, crate::specs::Lines::letter_of, crate::specs::Lines::call_line))]
+
+ghost use Rattle.std.specs.Prelude.{◌≡◌, true};
 ghost use Rattle.ledger.specs.declared.Call.TheVariants as Calls;
 ghost use Rattle.fields.specs.Numbers.{are_writable};
-ghost use Rattle.lines.specs.Lines.{line_of, when_letter, report_numbers, change_numbers, rect_numbers, ask_numbers, numbers_of, call_line, Room, Written};
+ghost use Rattle.lines.specs.Lines.{line_of, report_numbers, change_numbers, rect_numbers, ask_numbers, numbers_of, call_line, Room, Written};
 
 use crate::Line;
 use fields::WIDTH;
@@ -30,7 +31,6 @@ fn write_report(letter: u8, r: Report, out: &mut [u8]) -> usize
     write_line(letter, &[r.id, r.t, r.x, r.y, r.vx, r.vy], out)
 }
 
-#[tactic(auto, unfolding(crate::specs::Lines::change_numbers, crate::specs::Lines::numbers_of, crate::specs::Lines::letter_of, crate::specs::Lines::call_line))]
 fn write_change(change: Change, out: &mut [u8]) -> usize
     requires { Room (change_numbers change) out.old }
     ensures { Written (call_line (Line.Call (Calls.Change change))) out.old out.new result }
@@ -55,40 +55,23 @@ fn corners_of(rect: Rect) -> [i32; 4]
     ]
 }
 
-fn write_timeslice(method: i32, time: i32, rect: Rect, out: &mut [u8]) -> usize
-    requires { Room (method ∷ time ∷ rect_numbers rect) out.old }
-    ensures { Written (line_of (when_letter (At time)) (method ∷ time ∷ rect_numbers rect)) out.old out.new result }
-{
-    let [low_x, low_y, high_x, high_y] = corners_of(rect);
-    write_line(b'Q', &[method, time, low_x, low_y, high_x, high_y], out)
-}
-
-fn write_window(method: i32, first: i32, last: i32, rect: Rect, out: &mut [u8]) -> usize
-    requires { Room (method ∷ first ∷ last ∷ rect_numbers rect) out.old }
-    ensures { Written (line_of (when_letter (During first last)) (method ∷ first ∷ last ∷ rect_numbers rect)) out.old out.new result }
-{
-    let [low_x, low_y, high_x, high_y] = corners_of(rect);
-    write_line(
-        b'W',
-        &[method, first, last, low_x, low_y, high_x, high_y],
-        out,
-    )
-}
-
-#[tactic(auto, unfolding(crate::specs::Lines::change_numbers, crate::specs::Lines::numbers_of, crate::specs::Lines::letter_of, crate::specs::Lines::call_line))]
 fn write_ask(ask: Ask, out: &mut [u8]) -> usize
     requires { Room (ask_numbers ask) out.old }
     ensures { Written (call_line (Line.Call (Calls.Ask ask))) out.old out.new result }
 {
-    let rect = ask.query.rect;
+    let method = ask.method;
+    let [low_x, low_y, high_x, high_y] = corners_of(ask.query.rect);
     match ask.query.when {
-        When::At(time) => write_timeslice(ask.method, time, rect, out),
-        When::During(first, last) => write_window(ask.method, first, last, rect, out),
+        When::At(time) => write_line(b'Q', &[method, time, low_x, low_y, high_x, high_y], out),
+        When::During(first, last) => write_line(
+            b'W',
+            &[method, first, last, low_x, low_y, high_x, high_y],
+            out,
+        ),
     }
 }
 
 // A call's line in front, the rest kept; the bytes written are returned. What is no call writes nothing.
-#[tactic(auto, unfolding(crate::specs::Lines::change_numbers, crate::specs::Lines::numbers_of, crate::specs::Lines::letter_of, crate::specs::Lines::call_line))]
 pub fn write_call(line: Line, out: &mut [u8]) -> usize
     requires { Room (numbers_of line) out.old }
     ensures { Written (call_line line) out.old out.new result }
