@@ -70,10 +70,12 @@ fields_read line (suc k) h g =
     let e : 10 * suc k ≡ 10 * k + 10 = omega arith in
     let fine = and_left (are_numbers line k) (is_some (nth_field line k)) g in
     let last = and_right (are_numbers line k) (is_some (nth_field line k)) g in
+    let z = unwrap_or (nth_field line k) (pos 0) in
+    let one = read_field_is line (line_length k) z (omega arith) (some_is (nth_field line k) last) in
     ap (λ (n : ℕ). take n (drop 1 line)) e
     ∙ take-add (10 * k) 10 (drop 1 line)
-    ∙ ap₂ ◌++◌ (fields_read line k (omega arith) fine) (ap (take 10) (drop-drop (10 * k) 1 line) ∙ read_field_is line (line_length k) _ (omega arith) (some_is (nth_field line k) last) ∙ sym (append-nil _))
-    ∙ sym (fields_append (numbers_in line k) (unwrap_or (nth_field line k) (pos 0) ∷ []))
+    ∙ ap₂ ◌++◌ (fields_read line k (omega arith) fine) (ap (take 10) (drop-drop (10 * k) 1 line) ∙ one ∙ sym (append-nil _))
+    ∙ sym (fields_append (numbers_in line k) (z ∷ []))
 
 pub line_read : (line : List ℕ) (k : ℕ) → length line ≡ line_length k → are_numbers line k ≡ true → line ≡ line_of (get_or line 0 0) (numbers_in line k)
 line_read [] k h g = absurd (omega arith)

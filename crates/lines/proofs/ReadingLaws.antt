@@ -164,3 +164,6 @@ module _ (line : List ℕ) where
           → Line.NoCall ≡ cond b (call_of letter (numbers_in line count)) Line.NoCall
       go true e = cc
       go false e = refl
+
+-- what `read_call` goes by
+pub ruleset read_call_laws = (few_follow, empty_read, other_letter, some_read, none_read)

@@ -67,7 +67,7 @@ fn call_of(letter: u8, n: &[i32; MOST_NUMBERS]) -> Line
     }
 }
 
-#[tactic(auto, using(crate::proofs::ReadingLaws::few_follow, crate::proofs::ReadingLaws::empty_read, crate::proofs::ReadingLaws::other_letter, crate::proofs::ReadingLaws::some_read, crate::proofs::ReadingLaws::none_read))]
+#[tactic(auto, using(crate::proofs::ReadingLaws::read_call_laws))]
 pub fn read_call(line: &[u8]) -> Line
     ensures { result ≡ read_line line.now }
 {
