@@ -16,7 +16,8 @@ pub fn write_numbers(out: &mut [u8], at: usize, numbers: &[i32])
     }
 }
 
-// Some numbers from a place on, each in so many columns.
+// Some numbers from a place on, each in so many columns. One function over these and the fields would take a closure that writes a number, and be
+// no plainer.
 pub fn write_unsigned(out: &mut [u8], at: usize, columns: usize, numbers: &[u16])
     requires { ColumnsRoom at columns numbers.now out.old }
     ensures { out.new ≡ put out.old at (in_columns columns numbers.now) }

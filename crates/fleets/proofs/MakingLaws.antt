@@ -27,9 +27,6 @@ unfolding float_of times
 makes k s one two three four =
     rw (four.drawn, four.stepped, three.drawn, three.stepped, two.drawn, two.stepped, one.drawn, one.stepped) record { report_is = refl; state_is = refl }
 
--- what was drawn below a number
+-- a position is below the number of positions
 pub position_below : (s x : ℕ) → x ≡ (draw_below positions s).number → x < positions
 position_below s x e = rw e (draw_below_lem positions s (lit< tt))
-
-pub speed_below : (s v : ℕ) → v ≡ (draw_below speeds s).number → v < speeds
-speed_below s v e = rw e (draw_below_lem speeds s (lit< tt))

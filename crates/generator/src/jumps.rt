@@ -10,6 +10,7 @@ pub fn jump(m: u64, start: u32) -> u32
     let mut f = Affine::one();
     let mut s = start;
     let mut left = m;
+    // A `for` would have to know how many halvings there are.
     while 0 < left {
         if left % 2 != 0 {
             s = f.applied_to(s);

@@ -11,7 +11,7 @@ use mathlib.Core.List.{List, [], ◌∷◌, ◌++◌, append_assoc}
 use Prim.Native.Nat.{ℕ, zero, suc, ◌+◌, ◌-◌, ◌≤◌, ◌<◌}
 use native.Mathlib.Numerals.{add-one}
 use native.Mathlib.Omega.{arith}
-use borrow.Author.Tests.{eq-eqb, ne_eqb}
+use borrow.Author.Tests.{ne_eqb}
 use lib.Dec.{lit≤}
 use lib.IntN.{ℤ, pos}
 use lib.ListN.{length, get_or, set, replicate, length-append}
@@ -94,21 +94,12 @@ missing line k (suc n) h is =
     and_none false = refl
 
 module _ (line : List ℕ) (count : ℕ) where
-  pub other_length : (length line ≡ line_length count → ⊥) → None ≡ numbers_read line count
-  other_length h = simp (ne_eqb _ _ h)
-
   pub one_missing : (k : ℕ) → k < count → nth_field line k ≡ None → None ≡ numbers_read line count
   one_missing k h is = go (eqb (length line) (line_length count)) (missing line k count h is)
     where
       go : (b : Bool) → are_numbers line count ≡ false → None ≡ cond (b && are_numbers line count) (Some (numbers_in line count ++ replicate (most_numbers - count) (pos 0))) None
       go true e = rw e refl
       go false e = refl
-
-  pub all_read : (k : ℕ) (ns : List ℤ) → k ≡ count → length line ≡ line_length count → ReadSoFar line k ns → Some ns ≡ numbers_read line count
-  all_read k ns e long so =
-      let good : are_numbers line count ≡ true = ap (are_numbers line) (sym e) ∙ so.all_read in
-      let is = so.numbers_are ∙ ap (λ (n : ℕ). numbers_in line n ++ replicate (most_numbers - n) (pos 0)) e in
-      ap Some is ∙ simp (eq-eqb _ _ long, good)
 
 -- numbers, and 0 past them: the same call
 padded : (ns : List ℤ) (k i : ℕ) → nth (ns ++ replicate k (pos 0)) i ≡ nth ns i
