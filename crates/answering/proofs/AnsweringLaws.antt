@@ -3,6 +3,7 @@
 -- Assumes nothing.
 use Rattle.std.specs.Prelude.{Result, Ok, Err}
 use mathlib.Core.Path.{◌≡◌, refl, sym, ap, subst, ◌∙◌}
+use mathlib.Core.Logic.{∥∥₁_elim, ∥∥₁_map}
 use mathlib.Core.Bool.{Bool, true, false, cond}
 use mathlib.Core.List.{List, [], ◌∷◌, ◌++◌, map, append_assoc}
 use Prim.Native.Nat.{ℕ, suc, ◌+◌, ◌-◌, ◌<◌, ◌≤◌}
@@ -11,9 +12,12 @@ use lib.Dec.{ltb}
 use lib.IntN.{ℤ, pos}
 use lib.ListN.{length, get_or, take, drop, set, length-append, length-take, take-append-drop}
 use lib.Seq.{length-take-le, set_at, drop-append-le, drop-cons}
-use borrow.Author.Tests.{ltb-false}
+use borrow.Author.Tests.{eq-eqb, ltb-false}
+use Rattle.std.proofs.Props.{props}
 use Rattle.ints.proofs.Parts.{true_false}
-use Rattle.records.specs.Words.{Words, time_in, are_sound}
+use Rattle.rows.specs.Table.{table_words}
+use Rattle.records.specs.Records.{store_words}
+use Rattle.records.specs.Words.{Words, words, time_in, are_sound}
 use Rattle.records.specs.declared.Record.{Record}
 use Rattle.words.specs.Words.{opened}
 use Rattle.words.proofs.WordsPlacedLaws.{opened_records}
@@ -27,7 +31,6 @@ use Rattle.ledger.specs.declared.Answer.{Answer}
 use Rattle.ledger.specs.declared.Answer.TheVariants.{Accepted, Listed, Refused}
 use Rattle.ledger.specs.declared.Ask.{Ask}
 use Rattle.ledger.specs.declared.Call.{Call}
-use Rattle.ledger.specs.declared.Call.TheVariants as Call
 use Rattle.ledger.specs.declared.Refusal.{Refusal}
 use Rattle.ledger.specs.declared.Refusal.TheVariants.{WrongLength, Unsound, BadTime, BadWindow, BadNumber, AlreadyHeld, NotHeld, Full, ListTooShort}
 use Rattle.ledger.proofs.RefusalsLaws.{passes, first_passed, others_passed, passed_before, before_passed}
@@ -47,7 +50,7 @@ use Rattle.lines.specs.Lines.{letter_of, Written}
 use Rattle.answers.specs.Answers.{answer_line, no_call_line, AnswerRoom}
 use Rattle.lines.specs.Reading.{read_line}
 use Rattle.fields.proofs.NumbersLaws.{pos-writable, none_writable, more_writable}
-use Rattle.lines.specs.declared.Line.TheVariants as Line
+use Rattle.lines.specs.declared.Line.{Line}
 use Rattle.answering.specs.Replay.{newline, list_length, fed_of, told, answer_to, next}
 use Rattle.answering.specs.Answering.{longest_answer, AtPoint, ids_told, Answers, AnswersLine}
 
@@ -87,8 +90,13 @@ answer_room (Refused r) ids out s few room = record {
 
 -- ---- a call after open
 
-pub point_sound : (w : Words) (l : Ledger) → Point l w → are_sound w ≡ true
-point_sound w l p = (every-point-goes_on l w p).sound
+-- so an index that has been opened is sound
+pub point_sound : (w : Words) → ∥ AtPoint w.store w.table ∥₁ → are_sound w ≡ true
+point_sound w at = ∥∥₁_elim at (Prim.hlevel props) (λ p. (every-point-goes_on p.ledger w p.point).sound)
+
+-- what leads each point on leads an opened index on
+pub point_then : (w w' : Words) (line : Line) → ((l : Ledger) → Point l w → Point (next l line) w') → ∥ AtPoint w.store w.table ∥₁ → ∥ AtPoint w'.store w'.table ∥₁
+point_then w w' line leads at = ∥∥₁_map at (λ p. record { ledger = next p.ledger line; point = leads p.ledger p.point })
 
 -- the ids written in front are those of the reply
 ids_told_lem : (a : Answer) (list : List ℕ) → ids_written a list ≡ take (ids_told a) list
@@ -123,9 +131,9 @@ few_told w (Call.Ask ask) list =
     ltb-false (length list) needed (first_passed short (ListTooShort needed) [] after-numbers))
 
 module _ (call : Call) (w : Words) (list : List ℕ) (w' : Words) (list' : List ℕ) (a : Answer) (g : GivesCall (call_out w call list) a w' list') (e : length list ≡ list_length) where
-  pub told_fits : AtPoint w.store w.table → (out : List ℕ) → longest_answer ≤ length out → AnswerRoom a (take (ids_told a) list') out
-  told_fits at out room =
-      let small = call_small w (point_sound w at.ledger at.point) call list in
+  pub told_fits : are_sound w ≡ true → (out : List ℕ) → longest_answer ≤ length out → AnswerRoom a (take (ids_told a) list') out
+  told_fits sound out room =
+      let small = call_small w sound call list in
       let few : ids_told a ≤ length list = rw g.answer_is (few_told w call list) in
       answer_room a (take (ids_told a) list') out (subst SmallAnswer (sym g.answer_is) small) (omega (arith, length-take (ids_told a) list')) room
 
@@ -141,19 +149,24 @@ module _ (call : Call) (w : Words) (list : List ℕ) (w' : Words) (list' : List 
   fed_is : fed (record { call = call; list = list }) ≡ fed_of call
   fed_is = ap (λ (n : ℕ). record { call = call; room = n }) e
 
+  pub call_leads : (l : Ledger) → Point l w → Point (next l (Line.Call call)) w'
+  unfolding next
+  call_leads l p =
+      let lent : LentCall = record { call = call; list = list } in
+      subst (λ (c : Fed). Point (L.next l c) w') fed_is
+      (subst (Point (L.next l (fed lent))) (sym g.words_are) ((every-point-goes_on l w p).leads lent))
+
   pub answers_made :
       (letter : ℕ)
       → letter ≡ letter_of (Line.Call call)
       → (out out' : List ℕ) (n : ℕ)
       → Written (answer_line letter a (take (ids_told a) list')) out out' n
-      → Answers (Line.Call call) w.store w.table w'.store w'.table out out' n
+      → Answers (Line.Call call) w w' out out' n
   unfolding next answer_to
   answers_made letter is out out' n written =
       let lent : LentCall = record { call = call; list = list } in
       record {
-        leads = λ l p.
-            subst (λ (c : Fed). Point (L.next l c) w') fed_is
-            (subst (Point (L.next l (fed lent))) (sym g.words_are) ((every-point-goes_on l w p).leads lent));
+        leads = call_leads;
         writes = λ l p.
             subst (λ (x : List ℕ). Written x out out' n)
             (ap (λ (x : ℕ). answer_line x a (take (ids_told a) list')) is
@@ -161,13 +174,23 @@ module _ (call : Call) (w : Words) (list : List ℕ) (w' : Words) (list' : List 
             written;
       }
 
+-- ---- the first open
+
+module _ (store table : List ℤ) (long : length store ≡ store_words) (wide : length table ≡ table_words) where
+  opens : is_accepted (open_out (words store table) (pos 0)).answer ≡ true
+  unfolding open_out first_to_fail
+  opens = rw (eq-eqb (length store) store_words long, eq-eqb (length table) table_words wide) refl
+
+  pub first_point : (w : Words) (a : Answer) → Gives (open_out (words store table) (pos 0)) a w → Point (Ledger.opened (pos 0)) w
+  unfolding H.after L.after
+  first_point w a g = record { lent = words store table; time = pos 0; calls = []; opens = opens; words_are = g.words_are; ledger_is = refl }
+
 -- ---- an open at a point
 
-module _ (w : Words) (t : ℤ) (at : AtPoint w.store w.table) where
+module _ (w : Words) (t : ℤ) (sound : are_sound w ≡ true) where
   -- an open over sound words answers as the ledger's
   open_verdict : first_to_fail (open_checks w t) ≡ first_to_fail (L.open_checks t)
   open_verdict =
-      let sound = point_sound w at.ledger at.point in
       sym (passes (wrong_length w) WrongLength (L.open_checks t) _ (right_length w sound) refl)
 
   open_by : (v : Result (Unit {0}) Refusal) → (settled v w (opened t w)).answer ≡ answer_by v (Accepted 0)
@@ -188,26 +211,30 @@ module _ (w : Words) (t : ℤ) (at : AtPoint w.store w.table) where
   open_leads true e l p = record { lent = w; time = t; calls = []; opens = e; words_are = refl; ledger_is = refl }
   open_leads false e l p = subst (Point l) (refused_stays (first_to_fail (open_checks w t)) e) p
 
+  pub opened_leads : (a : Answer) (w' : Words) → Gives (open_out w t) a w' → (l : Ledger) → Point l w → Point (next l (Line.Open t)) w'
+  unfolding next
+  opened_leads a w' g l p =
+      subst (λ (x : Ledger). Point x w') (ap (λ (x : Answer). cond (is_accepted x) (Ledger.opened t) l) open_answer)
+      (subst (Point (cond (is_accepted (open_out w t).answer) (Ledger.opened t) l)) (sym g.words_are)
+      (open_leads (is_accepted (open_out w t).answer) refl l p))
+
   pub answers_open :
       (a : Answer) (w' : Words)
       → Gives (open_out w t) a w'
       → (out out' : List ℕ) (n : ℕ)
       → Written (answer_line (letter_of (Line.Open t)) a []) out out' n
-      → Answers (Line.Open t) w.store w.table w'.store w'.table out out' n
+      → Answers (Line.Open t) w w' out out' n
   unfolding next answer_to
   answers_open a w' g out out' n written = record {
-    leads = λ l p.
-        subst (λ (x : Ledger). Point x w') (ap (λ (x : Answer). cond (is_accepted x) (Ledger.opened t) l) open_answer)
-        (subst (Point (cond (is_accepted (open_out w t).answer) (Ledger.opened t) l)) (sym g.words_are)
-        (open_leads (is_accepted (open_out w t).answer) refl l p));
+    leads = opened_leads a w' g;
     writes = λ l p. subst (λ (x : Answer). Written (answer_line (letter_of (Line.Open t)) x []) out out' n) (g.answer_is ∙ open_answer) written;
   }
 
 -- ---- what is no call
 
-pub answers_no_call : (store table : List ℤ) (out out' : List ℕ) (n : ℕ) → Written no_call_line out out' n → Answers Line.NoCall store table store table out out' n
+pub answers_no_call : (w : Words) (out out' : List ℕ) (n : ℕ) → Written no_call_line out out' n → Answers Line.NoCall w w out out' n
 unfolding next answer_to
-answers_no_call store table out out' n w = record { leads = λ l p. p; writes = λ l p. w }
+answers_no_call w out out' n text = record { leads = λ l p. p; writes = λ l p. text }
 
 -- ---- the newline
 
@@ -238,13 +265,13 @@ module _ (out text ys : List ℕ) (n : ℕ) (h : 0 < length out) (w : Written te
         count = omega (arith, one);
       }
 
-module _ (line : List ℕ) (store table store' table' : List ℤ) (out ys : List ℕ) (n : ℕ)
-    (at : AtPoint store table) (h : 0 < length out)
-    (a : Answers (read_line line) store table store' table' (take (length out - 1) out) ys n) (e : length ys ≡ length (take (length out - 1) out)) where
+module _ (line : List ℕ) (w w' : Words) (out ys : List ℕ) (n : ℕ)
+    (at : ∥ AtPoint w.store w.table ∥₁) (h : 0 < length out)
+    (a : Answers (read_line line) w w' (take (length out - 1) out) ys n) (e : length ys ≡ length (take (length out - 1) out)) where
   pub line_short : n < length out
-  line_short = answer_short out (answer_to at.ledger (read_line line)) ys n h (a.writes at.ledger at.point) e
+  line_short = ∥∥₁_elim at (Prim.hlevel props) (λ p. answer_short out (answer_to p.ledger (read_line line)) ys n h (a.writes p.ledger p.point) e)
 
-  pub line_answered : AnswersLine line store table store' table' out (set (ys ++ drop (length out - 1) out) n newline) (n + 1)
+  pub line_answered : AnswersLine line w w' out (set (ys ++ drop (length out - 1) out) n newline) (n + 1)
   line_answered = record {
     leads = a.leads;
     writes = λ l p. newline_behind out (answer_to l (read_line line)) ys n h (a.writes l p) e;

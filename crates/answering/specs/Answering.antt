@@ -1,12 +1,12 @@
--- What the functions that answer a line ask and leave. What a line is answered is in specs/Replay.antt.
+-- What the functions that answer a line leave. What a line is answered is in specs/Replay.antt.
 -- Assumes nothing.
-use Rattle.std.specs.Prelude.{◌≡◌, List, ℕ, ◌+◌, ◌≤◌, ℤ, length}
-use Rattle.records.specs.Words.{words}
+use Rattle.std.specs.Prelude.{List, ℕ, ◌+◌, ℤ}
+use Rattle.records.specs.Words.{Words, words}
 use Rattle.ledger.specs.Machine.{Ledger}
 use Rattle.ledger.specs.declared.Answer.{Answer}
 use Rattle.ledger.specs.declared.Answer.TheVariants.{Accepted, Listed, Refused}
 use Rattle.history.specs.Points.{Point}
-use Rattle.lines.specs.Lines.{line_length, letter_of, Written}
+use Rattle.lines.specs.Lines.{line_length, Written}
 use Rattle.lines.specs.declared.Line.{Line}
 use Rattle.answers.specs.Answers.{most_answered}
 use Rattle.answering.specs.Replay.{list_length, answer_to, next, line_answered, after_line}
@@ -29,23 +29,12 @@ ids_told (Accepted held) = 0
 ids_told (Listed ids cells useful rounds) = ids
 ids_told (Refused r) = 0
 
--- at a point of some list, with an answer list of its length and room for an answer
-pub record CanAnswer (most : ℕ) (store table : List ℤ) (list out : List ℕ) : Type 0 where
-  pub at_point : AtPoint store table
-  pub list_long : length list ≡ list_length
-  pub room : most ≤ length out
-
--- and the letter of a line
-pub record CanTell (line : Line) (letter : ℕ) (store table : List ℤ) (list out : List ℕ) : Type 0 where
-  pub can_answer : CanAnswer longest_answer store table list out
-  pub letter_is : letter ≡ letter_of line
-
 -- what a line leaves and writes, whatever the list whose point the words are at
-pub record Answers (line : Line) (store table store' table' : List ℤ) (out out' : List ℕ) (filled : ℕ) : Type 0 where
-  pub leads : (l : Ledger) → Point l (words store table) → Point (next l line) (words store' table')
-  pub writes : (l : Ledger) → Point l (words store table) → Written (answer_to l line) out out' filled
+pub record Answers (line : Line) (w w' : Words) (out out' : List ℕ) (filled : ℕ) : Type 0 where
+  pub leads : (l : Ledger) → Point l w → Point (next l line) w'
+  pub writes : (l : Ledger) → Point l w → Written (answer_to l line) out out' filled
 
 -- the same of a line's bytes, whose answer ends with a newline
-pub record AnswersLine (line : List ℕ) (store table store' table' : List ℤ) (out out' : List ℕ) (filled : ℕ) : Type 0 where
-  pub leads : (l : Ledger) → Point l (words store table) → Point (after_line l line) (words store' table')
-  pub writes : (l : Ledger) → Point l (words store table) → Written (line_answered l line) out out' filled
+pub record AnswersLine (line : List ℕ) (w w' : Words) (out out' : List ℕ) (filled : ℕ) : Type 0 where
+  pub leads : (l : Ledger) → Point l w → Point (after_line l line) w'
+  pub writes : (l : Ledger) → Point l w → Written (line_answered l line) out out' filled

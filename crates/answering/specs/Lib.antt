@@ -1,3 +1,4 @@
 pub mod Replay
 pub mod Answering
+pub mod Index
 pub mod Examples

@@ -12,7 +12,6 @@ use Rattle.lines.specs.Lines.{letter_of}
 use Rattle.answers.specs.Answers.{answer_line, no_call_line}
 use Rattle.lines.specs.Reading.{read_line}
 use Rattle.lines.specs.declared.Line.{Line}
-use Rattle.lines.specs.declared.Line.TheVariants as Line
 
 abbrev pub newline : ℕ
 newline = code "\n"

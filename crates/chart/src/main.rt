@@ -5,21 +5,17 @@ ghost use Rattle.std.specs.Prelude.{◌≡◌};
 ghost use Rattle.drawing.specs.Chart.{chart_text};
 
 use drawing::{CHART_BYTES, write_chart};
-use streams::{Streams, write_out};
+use streams::Streams;
 
 // It is lent the chart's text. That these bytes go to standard output has no definition; the one call below does it.
 fn print(streams: Streams, text: &[u8; CHART_BYTES])
     requires { text.now ≡ chart_text }
 {
-    write_out(streams, text, b"chart: cannot write standard output");
+    let _written = streams.write_out(text);
 }
 
 fn main(rt: HostRuntime) {
-    let streams = Streams {
-        input: rt.stdin(),
-        output: rt.stdout(),
-        errors: rt.stderr(),
-    };
+    let streams = Streams::of(&rt, b"chart");
     let mut text = [0u8; CHART_BYTES];
     write_chart(&mut text);
     print(streams, &text);

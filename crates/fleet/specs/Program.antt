@@ -1,22 +1,21 @@
 -- What the fleet program's reads leave.
 -- Assumes nothing.
-use Rattle.std.specs.Prelude.{◌≡◌, true, List, ℕ, ◌<◌, ◌≤◌, length, take}
-use Rattle.fleet.specs.declared.Read.{Read}
+use Rattle.std.specs.Prelude.{◌≡◌, List, ℕ, ◌≤◌, length, take, Result, IfOk}
+use Rattle.streams.specs.declared.Failure.{Failure}
+use Rattle.fleet.specs.declared.Held.{Held}
+use Rattle.fleet.specs.declared.Held.TheVariants.{Whole, Enough}
 
--- the bytes that came stand at the start, and there is more to read only where some came. Which bytes `read` gave has no definition, so no more can be
--- said of them here
-pub record ReadsPart (part' : List ℕ) (r : Read) : Type 0 where
-  pub within : r.held ≤ length part'
-  pub goes_on : r.more ≡ true → 0 < r.held
-
--- the same behind the bytes that are held, which stay
-pub record ReadsMore (input input' : List ℕ) (held : ℕ) (r : Read) : Type 0 where
+-- the bytes that came stand behind those that are held, which stay. There is more to read only where some came, so where as many are held as before the
+-- input has ended. Which bytes `read` gave has no definition, so no more can be said of them here
+pub record ReadsMore (input input' : List ℕ) (held : ℕ) (r : Result ℕ Failure) : Type 0 where
   pub kept : take held input' ≡ take held input
-  pub behind : held ≤ r.held
-  pub within : r.held ≤ length input'
-  pub goes_on : r.more ≡ true → held < r.held
+  pub behind : IfOk r (λ more. held ≤ more)
+  pub within : IfOk r (λ more. more ≤ length input')
 
 -- the whole of it: where there is more to read, as many bytes are held as there is room for
-pub record ReadsInput (input' : List ℕ) (r : Read) : Type 0 where
-  pub within : r.held ≤ length input'
-  pub full : r.more ≡ true → r.held ≡ length input'
+abbrev pub Fills : List ℕ → Held → Type 0
+Fills input (Whole held) = held ≤ length input
+Fills input (Enough held) = held ≡ length input
+
+abbrev pub ReadsInput : List ℕ → Result Held Failure → Type 0
+ReadsInput input' r = IfOk r (Fills input')

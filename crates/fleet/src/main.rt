@@ -4,85 +4,63 @@
 
 ghost use Rattle.std.specs.Prelude.{◌≡◌, ◌≤◌, length};
 ghost use Rattle.fleets.specs.Fleets.{fleet_text};
-ghost use Rattle.fleet.specs.Program.{ReadsPart, ReadsMore, ReadsInput};
+ghost use Rattle.fleet.specs.Program.{ReadsMore, ReadsInput};
 
 use fleets::{FLEET_BYTES, write_fleet};
-use streams::{Streams, read_chunk, write_out};
+use streams::{Failure, Streams};
 
 // One byte more than a line and its newline: of an input that has so many the rest does not matter, and it is not read.
 const INPUT_BYTES: usize = 32;
 
-// How many bytes are held after a read, and whether there is more to read. Where there is none, the input has ended or the read failed.
+// What is held of the input, by how many bytes.
 #[derive(Clone, Copy)]
-pub struct Read {
-    pub held: usize,
-    pub more: bool,
-    pub failed: bool,
+pub enum Held {
+    // It has ended.
+    Whole(usize),
+    // No byte more matters.
+    Enough(usize),
 }
 
-// Reads once, to the start of some bytes.
-fn read_part(streams: Streams, part: &mut [u8]) -> Read
-    ensures { ReadsPart part.new result }
-{
-    let got = read_chunk(streams, part, b"fleet: cannot read standard input");
-    Read {
-        held: io::count(got, part),
-        more: 0 < got,
-        failed: got < 0,
-    }
-}
-
-// Reads once, behind the bytes that are held.
-fn read_more(streams: Streams, input: &mut [u8], held: usize) -> Read
+// Reads once, behind the bytes that are held. At the end of the input no more are held than before.
+fn read_more(streams: Streams, input: &mut [u8], held: usize) -> Result<usize, Failure>
     requires { held ≤ length input.old }
     ensures { ReadsMore input.old input.new held result }
 {
-    let read = read_part(streams, &mut input[held..]);
-    Read {
-        held: held + read.held,
-        more: read.more,
-        failed: read.failed,
-    }
+    let came = streams.read_chunk(&mut input[held..])?;
+    Ok(held + came)
 }
 
 // Reads until the input has ended, a read has failed or no byte more matters.
-fn read_input(streams: Streams, input: &mut [u8]) -> Read
+fn read_input(streams: Streams, input: &mut [u8]) -> Result<Held, Failure>
     ensures { ReadsInput input.new result }
 {
     let mut held = 0;
+    // How much comes at once is known only once it is read, so no `for` goes over it.
     while held < input.len() {
-        let read = read_more(streams, input, held);
-        if !read.more {
-            return read;
+        let more = read_more(streams, input, held)?;
+        if more == held {
+            return Ok(Held::Whole(held));
         }
-        held = read.held;
+        held = more;
     }
-    Read {
-        held,
-        more: true,
-        failed: false,
-    }
+    Ok(Held::Enough(held))
 }
 
 // It is lent the text that is due for the input. That these bytes go to standard output has no definition; the one call below does it.
 fn print(streams: Streams, input: &[u8], text: &[u8])
     requires { text.now ≡ fleet_text input.now }
 {
-    write_out(streams, text, b"fleet: cannot write standard output");
+    let _written = streams.write_out(text);
 }
 
 fn main(rt: HostRuntime) {
-    let streams = Streams {
-        input: rt.stdin(),
-        output: rt.stdout(),
-        errors: rt.stderr(),
-    };
+    let streams = Streams::of(&rt, b"fleet");
     let mut input = [0u8; INPUT_BYTES];
     let mut text = [0u8; FLEET_BYTES];
-    let read = read_input(streams, &mut input);
-    if read.failed {
-        return;
-    }
-    let filled = write_fleet(&input[..read.held], &mut text);
-    print(streams, &input[..read.held], &text[..filled]);
+    let held = match read_input(streams, &mut input) {
+        Ok(Held::Whole(held) | Held::Enough(held)) => held,
+        Err(_) => return,
+    };
+    let filled = write_fleet(&input[..held], &mut text);
+    print(streams, &input[..held], &text[..filled]);
 }

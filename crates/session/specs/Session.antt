@@ -1,11 +1,12 @@
 -- The replay program as a machine that takes one byte at a time, and how its buffers stand to it. That it writes what answering's Replay says is
 -- claimed in specs/Claims.antt.
 -- Assumes nothing.
-use Rattle.std.specs.Prelude.{◌≡◌, cond, List, [], ◌∷◌, ◌++◌, ℕ, ◌+◌, ◌≤◌, eqb, ℤ, pos, length, take}
+use Rattle.std.specs.Prelude.{◌≡◌, cond, List, [], ◌∷◌, ◌++◌, ℕ, ◌+◌, ◌≤◌, eqb, pos, length, take}
 use Rattle.ledger.specs.Machine.{Ledger, opened}
 use Rattle.history.specs.Points.{Point}
-use Rattle.records.specs.Words.{words}
 use Rattle.lines.specs.Lines.{most_numbers, line_length}
+use Rattle.answering.specs.Index.{words_in}
+use Rattle.session.specs.declared.feeding.Buffers.{Buffers}
 use Rattle.answering.specs.Replay.{newline, line_answered, after_line, is_empty}
 
 -- ---- byte by byte
@@ -50,9 +51,9 @@ ledger_at_end s = cond (is_empty s.line) s.ledger (after_line s.ledger s.line)
 abbrev pub line_bytes : ℕ
 line_bytes = line_length most_numbers + 1
 
--- the buffers of a session: store and table at a point of a list whose ledger is the session's, and the first bytes of the line
-pub record Stands (s : Session) (store table : List ℤ) (line : List ℕ) (used : ℕ) : Type 0 where
-  pub point : Point s.ledger (words store table)
-  pub few : used ≤ line_bytes
-  pub begins : take used line ≡ take line_bytes s.line
-  pub long : length line ≡ line_bytes
+-- the buffers of a session: the index at a point of a list whose ledger is the session's, and the first bytes of the line
+pub record Stands (s : Session) (m : Buffers) : Type 0 where
+  pub point : Point s.ledger (words_in m.index)
+  pub few : m.held ≤ line_bytes
+  pub begins : take m.held m.line ≡ take line_bytes s.line
+  pub long : length m.line ≡ line_bytes

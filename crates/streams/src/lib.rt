@@ -1,19 +1,27 @@
 // Standard input read and standard output written. A call that was interrupted, or that would have to wait, is made again: it is neither the end of
-// the input nor a failure. A failure is told in one line on standard error: the program gives the line, and the system's words for the error end it.
+// the input nor a failure. A failure is told in one line on standard error, which begins with the program's name and ends with the system's words.
 #![tactic(auto)]
 
-ghost use Rattle.std.specs.Prelude.{◌≤◌, length};
-ghost use Rattle.streams.specs.Streams.{Moved};
+ghost use Rattle.std.specs.Prelude.{◌≤◌, length, IfOk};
+ghost use Rattle.streams.specs.Streams.{Moved, TakesSome};
 
 use std::io::{Error, ErrorKind, Print, Read, Stderr, Stdin, Stdout, Write};
 use std::thread::yield_now;
 
-// The standard streams of the program, which its `main` is given.
+// A read or a write that failed. It has been told already.
+#[derive(Clone, Copy, Debug, PartialEq, Eq)]
+pub enum Failure {
+    Read,
+    Write,
+}
+
+// The standard streams of a program, and the name under which it tells a failure.
 #[derive(Clone, Copy)]
 pub struct Streams {
-    pub input: Stdin,
-    pub output: Stdout,
-    pub errors: Stderr,
+    program: &'static [u8],
+    input: Stdin,
+    output: Stdout,
+    errors: Stderr,
 }
 
 // Bytes enough for the system's words for an error, and its number.
@@ -50,69 +58,82 @@ fn text_of(error: &Error, text: &mut [u8; TEXT_BYTES]) -> usize
     TEXT_BYTES.saturating_sub(rest.len())
 }
 
-// A failure told on standard error. Where that cannot be written either, nobody can be told.
-fn tell(streams: Streams, failure: &[u8], error: &Error) {
-    let mut text = [0u8; TEXT_BYTES];
-    let n = text_of(error, &mut text);
-    let words = words_of(&text[..n]);
-    let _failure = streams.errors.write_all(failure).is_ok();
-    let _colon = streams.errors.write_all(b": ").is_ok();
-    let _words = streams.errors.write_all(&text[..words]).is_ok();
-    let _end = streams.errors.write_all(b"\n").is_ok();
+impl Failure {
+    fn text(self) -> &'static [u8] {
+        match self {
+            Failure::Read => b": cannot read standard input: ",
+            Failure::Write => b": cannot write standard output: ",
+        }
+    }
 }
 
-// What came of standard input: how many bytes stand at the start of the chunk, 0 at the end of the input, or less where the read failed. A proved
-// loop has to end: this many calls that give nothing take longer than any machine lasts.
-pub fn read_chunk(streams: Streams, chunk: &mut [u8], failure: &[u8]) -> isize
-    ensures { Moved (length chunk.new) result }
-{
-    let mut input = streams.input;
-    for _ in 0..u64::MAX {
-        match input.read(chunk) {
-            Ok(got) => return got as isize,
-            Err(error) => {
-                if !tries_again(&error) {
-                    tell(streams, failure, &error);
-                    return -1;
+impl Streams {
+    // Those that `main` is given.
+    pub fn of(rt: &HostRuntime, program: &'static [u8]) -> Self {
+        Streams {
+            program,
+            input: rt.stdin(),
+            output: rt.stdout(),
+            errors: rt.stderr(),
+        }
+    }
+
+    // A failure told on standard error. Where that cannot be written either, nobody can be told.
+    fn tell(self, failure: Failure, error: &Error) -> Failure {
+        let mut text = [0u8; TEXT_BYTES];
+        let n = text_of(error, &mut text);
+        let words = words_of(&text[..n]);
+        let _program = self.errors.write_all(self.program).is_ok();
+        let _failure = self.errors.write_all(failure.text()).is_ok();
+        let _words = self.errors.write_all(&text[..words]).is_ok();
+        let _end = self.errors.write_all(b"\n").is_ok();
+        failure
+    }
+
+    // How many bytes came of standard input, which stand at the start of the chunk: none at the end of the input. A proved loop has to end: this many
+    // calls that give nothing take longer than any machine lasts.
+    pub fn read_chunk(self, chunk: &mut [u8]) -> Result<usize, Failure>
+        ensures { Moved (length chunk.new) result }
+    {
+        let mut input = self.input;
+        for _ in 0..u64::MAX {
+            match input.read(chunk) {
+                Ok(got) => return Ok(got),
+                Err(error) => {
+                    if !tries_again(&error) {
+                        return Err(self.tell(Failure::Read, &error));
+                    }
                 }
             }
         }
+        Err(Failure::Read)
     }
-    -1
-}
 
-// How many bytes standard output took of these, 0 where the write failed.
-fn write_some(streams: Streams, out: &[u8], failure: &[u8]) -> usize
-    ensures { result ≤ length out.now }
-{
-    for _ in 0..u64::MAX {
-        match streams.output.write_some(out) {
-            Ok(put) => {
-                if put == 0 {
-                    tell(streams, failure, &Error::from(ErrorKind::WriteZero));
-                }
-                return put;
-            }
-            Err(error) => {
-                if !tries_again(&error) {
-                    tell(streams, failure, &error);
-                    return 0;
+    // How many bytes standard output took of these. To take none is a failure.
+    fn write_some(self, out: &[u8]) -> Result<usize, Failure>
+        ensures { TakesSome (length out.now) result }
+    {
+        for _ in 0..u64::MAX {
+            match self.output.write_some(out) {
+                Ok(0) => return Err(self.tell(Failure::Write, &Error::from(ErrorKind::WriteZero))),
+                Ok(put) => return Ok(put),
+                Err(error) => {
+                    if !tries_again(&error) {
+                        return Err(self.tell(Failure::Write, &error));
+                    }
                 }
             }
         }
+        Err(Failure::Write)
     }
-    0
-}
 
-// Whether all of it was written. A write may take a part: the next goes on behind it.
-pub fn write_out(streams: Streams, out: &[u8], failure: &[u8]) -> bool {
-    let mut from = 0;
-    while from < out.len() {
-        let put = write_some(streams, &out[from..], failure);
-        if put == 0 {
-            return false;
+    // Writes all of it. A write may take a part: the next goes on behind it.
+    pub fn write_out(self, out: &[u8]) -> Result<(), Failure> {
+        let mut rest = out;
+        while !rest.is_empty() {
+            let put = self.write_some(rest)?;
+            rest = &rest[put..];
         }
-        from += put;
+        Ok(())
     }
-    true
 }
