@@ -3,13 +3,14 @@
 // does not grow with the input. Where a read or a write failed it stops there: a line that is cut off is no line, and gets no answer.
 #![tactic(auto)]
 
-ghost use Rattle.std.specs.Prelude.{◌≤◌, length, MatchResult};
+ghost use Rattle.std.specs.Prelude.{◌≤◌, length};
 ghost use Rattle.answering.specs.Answering.{answer_bytes};
 ghost use Rattle.session.specs.Session.{begun, Stands};
-ghost use Rattle.replay.specs.Program.{Takes, TakesFirst, Runs, Stops, Ends};
+ghost use Rattle.streams.specs.Streams.{Moved};
+ghost use Rattle.replay.specs.Program.{TakesChunk, AnswersRead, TakesRead, Runs, Replays};
 
 use session::feeding::Buffers;
-use streams::Streams;
+use streams::{Failure, Streams};
 
 // How many bytes are read or written at once.
 const CHUNK_BYTES: usize = 65536;
@@ -27,9 +28,9 @@ pub struct Ended {
     pub filled: usize,
 }
 
-// Answers the lines that end in a chunk, and writes the answers out.
-fn answer_chunk(streams: Streams, buffers: &mut Buffers, chunk: &[u8]) -> Result<(), Stopped>
-    ensures { MatchResult result (λ _. Takes chunk.now buffers.old buffers.new) (λ stop. TakesFirst stop.taken chunk.now buffers.old buffers.new) }
+// Answers the lines that end in a chunk, and writes the answers out: all its bytes are taken.
+fn answer_chunk(streams: Streams, buffers: &mut Buffers, chunk: &[u8]) -> Result<usize, Stopped>
+    ensures { TakesChunk chunk.now buffers.old buffers.new result }
 {
     let mut out = [0u8; CHUNK_BYTES];
     let mut from = 0;
@@ -41,26 +42,37 @@ fn answer_chunk(streams: Streams, buffers: &mut Buffers, chunk: &[u8]) -> Result
             return Err(Stopped { taken: from });
         }
     }
-    Ok(())
+    Ok(from)
 }
 
-// Reads once, and answers what came: so many bytes, none at the end of the input.
-fn read_once(streams: Streams, buffers: &mut Buffers, chunk: &mut [u8]) -> Result<usize, Stopped>
-    ensures { MatchResult result (λ came. TakesFirst came chunk.new buffers.old buffers.new) (λ stop. TakesFirst stop.taken chunk.new buffers.old buffers.new) }
+// Answers what a read gave: as many bytes as it says, none at the end of the input.
+fn answer_read(
+    streams: Streams,
+    buffers: &mut Buffers,
+    chunk: &[u8],
+    read: Result<usize, Failure>,
+) -> Result<usize, Stopped>
+    requires { Moved (length chunk.now) read }
+    ensures { AnswersRead read chunk.now buffers.old buffers.new result }
 {
-    match streams.read_chunk(chunk) {
-        Ok(came) => {
-            answer_chunk(streams, buffers, &chunk[..came])?;
-            Ok(came)
-        }
+    match read {
+        Ok(came) => answer_chunk(streams, buffers, &chunk[..came]),
         Err(_) => Err(Stopped { taken: 0 }),
     }
+}
+
+// Reads once, and answers what came.
+fn read_once(streams: Streams, buffers: &mut Buffers, chunk: &mut [u8]) -> Result<usize, Stopped>
+    ensures { TakesRead chunk.new buffers.old buffers.new result }
+{
+    let read = streams.read_chunk(chunk);
+    answer_read(streams, buffers, chunk, read)
 }
 
 // Answers all of the input but a last line that lacks its newline: how many bytes it had. A proved loop has to end, and nothing says that the input
 // does: each turn that goes on takes a byte or more of those that are left, and no machine reads so many.
 fn run(streams: Streams, buffers: &mut Buffers, chunk: &mut [u8]) -> Result<usize, Stopped>
-    ensures { MatchResult result (λ taken. Runs taken buffers.old buffers.new) (λ stop. Runs stop.taken buffers.old buffers.new) }
+    ensures { Runs buffers.old buffers.new result }
 {
     let most = usize::MAX - chunk.len();
     let mut taken = 0;
@@ -87,7 +99,7 @@ fn replay(
 ) -> Result<Ended, Stopped>
     requires begun { Stands begun buffers.old }
     requires room { answer_bytes ≤ length out.old }
-    ensures { MatchResult result (λ end. Ends end buffers.new out.new) (λ stop. Stops stop buffers.new) }
+    ensures { Replays buffers.new out.new result }
 {
     let taken = run(streams, buffers, chunk)?;
     let filled = buffers.finish(out);

@@ -13,4 +13,4 @@ pub loop-from-preserved : goal.loop-from-preserved
 loop-from-preserved c = let l = c.loop-from in let f = c.feed-fed in first_more _ l.from _ l.buffers _ f.new.out f.result l.invariant f.ensures
 
 pub returns : goal.returns
-returns c = first_all c.args.chunk.now c.loop-from.from _ _ c.loop-from.invariant (omega arith)
+returns c = let l = c.loop-from in (omega (arith, l.invariant.within), first_all c.args.chunk.now l.from _ _ l.invariant (omega arith))
