@@ -1,6 +1,5 @@
 // Keys, the live phase of a key, and the order of records: document 01, "Store and table".
 ghost use Rattle.std.specs.Prelude.{◌≡◌, unwrap_or};
-ghost use Rattle.ints.specs.Whole.{eq_z};
 ghost use Rattle.rows.specs.Phases.{phase_of, live_phases};
 ghost use Rattle.records.specs.Records.{all_records};
 ghost use Rattle.records.specs.Order.{key_at, key_in, slot_of_key, number_of_key, phase_with_slot, phase_of_key, precedes, is_sorted};
@@ -8,12 +7,6 @@ ghost use Rattle.records.specs.Needs.{CellOfSlot, CanKey};
 
 use crate::{RECORD_WORDS, Record};
 use grid::Report;
-
-pub fn is_same(a: i32, b: i32) -> bool
-    ensures { result ≡ eq_z a b }
-{
-    a <= b && b <= a
-}
 
 // The slot of a key.
 pub fn slot_of_key(key: i32) -> usize
