@@ -104,13 +104,6 @@ impl When {
     }
 }
 
-// A number of 32 bits in 64.
-pub fn wide_signed(z: i32) -> i64
-    ensures { result ≡ z }
-{
-    z as i64
-}
-
 impl Range {
     pub fn holds(self, z: i64) -> bool
         ensures { result ≡ between self.low self.high z }
