@@ -15,12 +15,13 @@ use records::{CAPACITY, STORE_WORDS};
 use rows::TABLE_WORDS;
 
 // An index that has been opened, and the list to which an ask writes its ids. It is at a point of a list of calls, so it is sound and no call tests it.
+// Whoever has buffers at a point makes the value of them: its fields are public.
 #[derive(Drop)]
 pub struct OpenIndex {
-    store: [i32; STORE_WORDS],
-    table: [i16; TABLE_WORDS],
-    list: [u16; CAPACITY],
-    ghost at_point: { ∥ AtPoint store table ∥₁ },
+    pub store: [i32; STORE_WORDS],
+    pub table: [i16; TABLE_WORDS],
+    pub list: [u16; CAPACITY],
+    pub ghost at_point: { ∥ AtPoint store table ∥₁ },
 }
 
 // How many ids a call wrote in front of its list.

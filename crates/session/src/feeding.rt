@@ -12,13 +12,14 @@ pub const ANSWER_BYTES: usize = 1
     + fields::WIDTH * (answers::ANSWER_NUMBERS + records::CAPACITY)
     + 1;
 
-// The index, and the first bytes of the line that has not ended yet: all that is kept of an input.
+// The index, and the first bytes of the line that has not ended yet: all that is kept of an input. Whoever has these makes the value of them: its fields
+// are public.
 #[derive(Drop)]
 pub struct Buffers {
-    index: OpenIndex,
-    line: [u8; LINE_BYTES],
-    held: usize,
-    ghost few: { held ≤ length line },
+    pub index: OpenIndex,
+    pub line: [u8; LINE_BYTES],
+    pub held: usize,
+    pub ghost few: { held ≤ length line },
 }
 
 // How many bytes of a chunk were taken, and how many bytes of the answers are there to be written.
