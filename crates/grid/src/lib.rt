@@ -136,7 +136,8 @@ impl Rect {
     }
 }
 
-// Where a float is along one axis at time s, reported at time t at x with the speed v.
+// Where a float is along one axis at time s, reported at time t at x with the speed v. The three stand in the report with those of the other axis: a struct
+// of them would be made for one call and taken apart in it.
 fn position_at(x: i32, v: i32, t: i32, s: i64) -> i64
     requires { SmallAxis x v t s }
     ensures { result ≡ position_after x v (s -ℤ t) }

@@ -86,6 +86,13 @@ impl Row {
         }
     }
 
+    // Widened where it stands.
+    pub fn widen_in(&mut self, drift: Drift)
+        ensures { self.new ≡ widened self.old drift }
+    {
+        *self = self.widen(drift);
+    }
+
     pub fn holds(self, drift: Drift) -> bool
         ensures { result ≡ holds self drift }
     {

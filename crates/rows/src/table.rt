@@ -11,7 +11,8 @@ pub fn widen_row(table: &mut [i16], slot: usize, number: usize, drift: Drift)
     requires { HasRow table.old slot number }
     ensures { table.new ≡ with_drift table.old slot number drift }
 {
-    let row = Row::read(table, slot, number).widen(drift);
+    let mut row = Row::read(table, slot, number);
+    row.widen_in(drift);
     row.write(table, slot, number);
 }
 
