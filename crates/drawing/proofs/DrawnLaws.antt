@@ -2,7 +2,7 @@
 -- shape visits each cell once.
 -- Assumes nothing.
 use mathlib.Core.Path.{◌≡◌, refl, sym, ap, ap₂, ◌∙◌}
-use mathlib.Core.List.{List, [], ◌∷◌}
+use mathlib.Core.List.{List}
 use mathlib.Core.Logic.{dite}
 use Prim.Native.Nat.{ℕ, zero, suc, ◌+◌, ◌-◌, ◌*◌, ◌^◌, ◌≤◌, ◌<◌}
 use native.Mathlib.Nat.{add-zero, zero-add, add-suc}
@@ -17,21 +17,15 @@ use Rattle.grid.specs.Curve.{cell, curve_number, IsCurve}
 use Rattle.grid.specs.declared.Cell.{Cell}
 use Rattle.grid.proofs.PlacesLaws.{one_cell}
 use Rattle.grid.proofs.CurveLaws.{number_below}
-use Rattle.shapes.specs.Shapes.{Shape, ShapeA, Part, part_of, placed_at, visit}
+use Rattle.shapes.specs.Shapes.{Shape, ShapeA, part_of, placed_at, visit}
 use Rattle.shapes.specs.Claims.{OnSquare, cell_count}
 use Rattle.shapes.proofs.Claims.{one_visit_per_cell, shape_a_is_quadrant_rule}
 use Rattle.shapes.proofs.Parts.{visit_part}
 use Rattle.drawing.specs.Squares.{table_place, quarter_of, grid_square}
 use Rattle.drawing.specs.Needs.{Fits}
-use Rattle.drawing.specs.Drawn.{shape_of, seen_part, numbered, drawn}
-use Rattle.drawing.specs.declared.drawn.Part.{Part as CodePart}
-use Rattle.drawing.specs.declared.drawn.Shape.{Shape as CodeShape}
-use Rattle.drawing.specs.declared.drawn.Shape.TheVariants.{A, B, C, D}
+use Rattle.drawing.specs.Drawn.{numbered, drawn}
 use Rattle.drawing.specs.declared.squares.Square.{Square}
 use Rattle.drawing.proofs.SquaresLaws.{half, next_order, four_parts}
-
-abbrev at : ℕ → ℕ → CodeShape → CodePart
-at column row shape = record { corner = cell column row; shape = shape }
 
 module _ (f : Shape) (square : Square) (table : List ℕ) where
   pub drawn_cell : square.order ≡ 0 → drawn f square table ≡ set table (table_place square (cell 0 0)) square.first
@@ -39,38 +33,6 @@ module _ (f : Shape) (square : Square) (table : List ℕ) where
   drawn_cell e =
       ap (λ (k : ℕ). numbered f square (cell_count k) table) e
       ∙ ap₂ (λ (k n : ℕ). set table (table_place square (visit k f 0)) n) e (add-zero square.first)
-
--- ---- the parts of a shape
-
--- as the code has them
-abbrev pub table : CodeShape → List CodePart
-table A = at 0 0 B ∷ at 0 1 A ∷ at 1 1 A ∷ at 1 0 C ∷ []
-table B = at 0 0 A ∷ at 1 0 B ∷ at 1 1 B ∷ at 0 1 D ∷ []
-table C = at 1 1 D ∷ at 0 1 C ∷ at 0 0 C ∷ at 1 0 A ∷ []
-table D = at 1 1 C ∷ at 1 0 D ∷ at 0 0 D ∷ at 0 1 B ∷ []
-
-pub table_part : (shape : CodeShape) (n : ℕ) (none : CodePart) → n < 4 → seen_part (get_or (table shape) n none) ≡ part_of (shape_of shape) n
-unfolding part_of
-table_part A zero none h = refl
-table_part A (suc zero) none h = refl
-table_part A (suc (suc zero)) none h = refl
-table_part A (suc (suc (suc zero))) none h = refl
-table_part A (suc (suc (suc (suc n)))) none h = absurd (omega arith)
-table_part B zero none h = refl
-table_part B (suc zero) none h = refl
-table_part B (suc (suc zero)) none h = refl
-table_part B (suc (suc (suc zero))) none h = refl
-table_part B (suc (suc (suc (suc n)))) none h = absurd (omega arith)
-table_part C zero none h = refl
-table_part C (suc zero) none h = refl
-table_part C (suc (suc zero)) none h = refl
-table_part C (suc (suc (suc zero))) none h = refl
-table_part C (suc (suc (suc (suc n)))) none h = absurd (omega arith)
-table_part D zero none h = refl
-table_part D (suc zero) none h = refl
-table_part D (suc (suc zero)) none h = refl
-table_part D (suc (suc (suc zero))) none h = refl
-table_part D (suc (suc (suc (suc n)))) none h = absurd (omega arith)
 
 -- ---- four quarters
 
@@ -108,27 +70,39 @@ module _ (f : Shape) (square : Square) (more : 0 < square.order) (table : List �
       ∙ ap (set (numbered (part_of f j).shape (quarter_at j) m (numbered f square (j * few) table)) (table_place (quarter_at j) (visit (square.order - 1) (part_of f j).shape m))) e
 
   -- a table with the parts before the j-th, and then with it
-  pub next_part :
-      (j : ℕ) {p : Part} {square' : Square} {before after : List ℕ}
-      → p ≡ part_of f j
-      → square' ≡ quarter_of square j p.corner
+  next_part :
+      (j n : ℕ) {square' : Square} {before after : List ℕ}
+      → n ≡ j * few + few
+      → square' ≡ quarter_at j
       → before ≡ numbered f square (j * few) table
-      → after ≡ drawn p.shape square' before
-      → after ≡ numbered f square ((j + 1) * few) table
-  next_part j {p} is q b a =
-      let e : (j + 1) * few ≡ j * few + few = omega arith in
+      → after ≡ drawn (part_of f j).shape square' before
+      → after ≡ numbered f square n table
+  next_part j n e q b a =
       a
-      ∙ ap₂ (drawn p.shape) q b
-      ∙ ap (λ (x : Part). drawn x.shape (quarter_of square j x.corner) (numbered f square (j * few) table)) is
+      ∙ ap₂ (drawn (part_of f j).shape) q b
       ∙ sym (part_numbered j few (omega arith))
       ∙ ap (λ (i : ℕ). numbered f square i table) (sym e)
 
-  -- the parts are four
-  pub all_parts : (n : ℕ) → n ≡ 4 → numbered f square (n * few) table ≡ drawn f square table
-  all_parts n e =
+  -- the four quarters drawn one after the other, from table to table
+  pub drawn_in_four :
+      {a b c d : Square} {one two three four : List ℕ}
+      → a ≡ quarter_at 0
+      → b ≡ quarter_at 1
+      → c ≡ quarter_at 2
+      → d ≡ quarter_at 3
+      → one ≡ drawn (part_of f 0).shape a table
+      → two ≡ drawn (part_of f 1).shape b one
+      → three ≡ drawn (part_of f 2).shape c two
+      → four ≡ drawn (part_of f 3).shape d three
+      → four ≡ drawn f square table
+  unfolding numbered
+  drawn_in_four a b c d one two three four =
+      let none : 0 ≡ 0 * few = omega arith in
+      let start : table ≡ numbered f square (0 * few) table = ap (λ (i : ℕ). numbered f square i table) none in
       let all = four_parts square more in
-      let is : n * few ≡ cell_count square.order = rw e (sym all) in
-      ap (λ (i : ℕ). numbered f square i table) is
+      next_part 3 (cell_count square.order) (omega arith) d
+      (next_part 2 (3 * few) (omega arith) c (next_part 1 (2 * few) (omega arith) b (next_part 0 (1 * few) (omega arith) a start one) two) three)
+      four
 
 -- ---- what stands in the table
 

@@ -1,10 +1,10 @@
 -- The quarters of a square of the grid: they lie in it, their order is one less, and their numbers are in its numbers.
 -- Assumes nothing.
 use mathlib.Core.Path.{◌≡◌, ap, ◌∙◌}
-use Prim.Native.Nat.{ℕ, zero, suc, ◌+◌, ◌-◌, ◌*◌, ◌^◌, ◌<◌}
+use Prim.Native.Nat.{ℕ, suc, ◌+◌, ◌-◌, ◌*◌, ◌^◌, ◌<◌}
 use native.Mathlib.Omega.{arith}
+use lib.Dec.{T, ltb, ltb→lt}
 use Rattle.grid.specs.declared.Cell.{Cell}
-use Rattle.shapes.specs.Shapes.{Shape, ShapeA, ShapeB, ShapeC, ShapeD, Part, part_of}
 use Rattle.shapes.specs.Claims.{cell_count}
 use Rattle.shapes.proofs.Squares.{twice, four_quarters, part_within}
 use Rattle.drawing.specs.Squares.{quarter_of}
@@ -40,37 +40,17 @@ module _ (square : Square) where
           numbers = omega (arith, f.numbers, part_within part 4 (s * s) cuts.part_of);
         }
 
--- a part of a shape lies in a square of side 2
-corner_below : (f : Shape) (n : ℕ) → ((part_of f n).corner.column < 2) × ((part_of f n).corner.row < 2)
-unfolding part_of
-corner_below ShapeA zero = (omega arith, omega arith)
-corner_below ShapeA (suc zero) = (omega arith, omega arith)
-corner_below ShapeA (suc (suc zero)) = (omega arith, omega arith)
-corner_below ShapeA (suc (suc (suc n))) = (omega arith, omega arith)
-corner_below ShapeB zero = (omega arith, omega arith)
-corner_below ShapeB (suc zero) = (omega arith, omega arith)
-corner_below ShapeB (suc (suc zero)) = (omega arith, omega arith)
-corner_below ShapeB (suc (suc (suc n))) = (omega arith, omega arith)
-corner_below ShapeC zero = (omega arith, omega arith)
-corner_below ShapeC (suc zero) = (omega arith, omega arith)
-corner_below ShapeC (suc (suc zero)) = (omega arith, omega arith)
-corner_below ShapeC (suc (suc (suc n))) = (omega arith, omega arith)
-corner_below ShapeD zero = (omega arith, omega arith)
-corner_below ShapeD (suc zero) = (omega arith, omega arith)
-corner_below ShapeD (suc (suc zero)) = (omega arith, omega arith)
-corner_below ShapeD (suc (suc (suc n))) = (omega arith, omega arith)
-
 -- a square of an order above 0 has its quarters
 pub cut :
-    (f : Shape) {square : Square} (n : ℕ) {part : Part}
-    → part ≡ part_of f n
-    → n < 4
+    {square : Square} {part : ℕ} {corner : Cell}
+    → T (ltb part 4)
+    → T (ltb corner.column 2)
+    → T (ltb corner.row 2)
     → Fits square
     → ((square.order ≡ 0) → ⊥)
-    → Cuts square n part.corner
-cut f {square} n is few fits more =
-    let below = corner_below f n in
-    rw is (record { fits = fits; more = omega arith; part_of = few; right_of = below.0; upper_of = below.1 })
+    → Cuts square part corner
+cut {square} {part} {corner} p r u fits more =
+    record { fits = fits; more = omega arith; part_of = ltb→lt part 4 p; right_of = ltb→lt corner.column 2 r; upper_of = ltb→lt corner.row 2 u }
 
 -- which are of a lower order and lie on the grid
 pub quarter_lower :

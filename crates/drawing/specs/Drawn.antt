@@ -1,24 +1,10 @@
 -- A shape drawn in a square: its cells numbered in the order of its visit.
 -- Assumes nothing.
 use Rattle.std.specs.Prelude.{List, ℕ, zero, suc, ◌+◌, set}
-use Rattle.shapes.specs.Shapes.{Shape, ShapeA, ShapeB, ShapeC, ShapeD, Part, visit}
+use Rattle.shapes.specs.Shapes.{Shape, visit}
 use Rattle.shapes.specs.Claims.{cell_count}
 use Rattle.drawing.specs.Squares.{table_place}
-use Rattle.drawing.specs.declared.drawn.Part.{Part as CodePart}
-use Rattle.drawing.specs.declared.drawn.Shape.{Shape as CodeShape}
-use Rattle.drawing.specs.declared.drawn.Shape.TheVariants.{A, B, C, D}
 use Rattle.drawing.specs.declared.squares.Square.{Square}
-
--- the document's shape that the code means
-abbrev pub shape_of : CodeShape → Shape
-shape_of A = ShapeA
-shape_of B = ShapeB
-shape_of C = ShapeC
-shape_of D = ShapeD
-
--- and the part
-abbrev pub seen_part : CodePart → Part
-seen_part p = record { corner = p.corner; shape = shape_of p.shape }
 
 -- a table with the first n cells of a shape numbered
 unfoldable pub numbered : Shape → Square → ℕ → List ℕ → List ℕ

@@ -1,91 +1,79 @@
 // The four shapes, each drawn by way of the others, of half the size, until the side is 1: document 02, A1.
-ghost use Rattle.std.specs.Prelude.{◌≡◌, ◌<◌};
-ghost use Rattle.grid.specs.Curve.{cell, IsCurve};
-ghost use Rattle.shapes.specs.Shapes.{part_of};
+ghost use Rattle.std.specs.Prelude.{◌≡◌};
+ghost use Rattle.grid.specs.Curve.{IsCurve};
+ghost use Rattle.shapes.specs.Shapes.{ShapeA, ShapeB, ShapeC, ShapeD};
 ghost use Rattle.drawing.specs.Needs.{Fits};
-ghost use Rattle.drawing.specs.Drawn.{shape_of, seen_part, drawn};
+ghost use Rattle.drawing.specs.Drawn.{drawn};
 
 use crate::squares::{ORDER, Square};
 use grid::{CELLS, Cell};
 
-// The document's A, B, C and D.
-#[derive(Clone, Copy)]
-enum Shape {
-    A,
-    B,
-    C,
-    D,
-}
+// The corners that a quarter lies at, as cells of a square of side 2.
+const LOWER_LEFT: Cell = Cell { column: 0, row: 0 };
+const LOWER_RIGHT: Cell = Cell { column: 1, row: 0 };
+const UPPER_LEFT: Cell = Cell { column: 0, row: 1 };
+const UPPER_RIGHT: Cell = Cell { column: 1, row: 1 };
 
-// One half-size part of a shape: where it lies, as a cell of a square of side 2, and its own shape.
-#[derive(Clone, Copy)]
-struct Part {
-    corner: Cell,
-    shape: Shape,
-}
+// These stay four functions: document 02 asks for shapes drawn by way of one another, four functions in a cycle of calls, the order falling at each call.
 
-// How many parts a shape has.
-const PARTS: usize = 4;
-
-impl Part {
-    fn at(column: usize, row: usize, shape: Shape) -> Part
-        ensures { result ≡ record { corner = cell column row; shape = shape } }
-    {
-        Part {
-            corner: Cell { column, row },
-            shape,
-        }
-    }
-}
-
-impl Shape {
-    // The part that is visited as the n-th, from 0 on.
-    fn part(self, n: usize) -> Part
-        requires { n < 4 }
-        ensures { seen_part result ≡ part_of (shape_of self) n }
-    {
-        let parts = match self {
-            Shape::A => [
-                Part::at(0, 0, Shape::B),
-                Part::at(0, 1, Shape::A),
-                Part::at(1, 1, Shape::A),
-                Part::at(1, 0, Shape::C),
-            ],
-            Shape::B => [
-                Part::at(0, 0, Shape::A),
-                Part::at(1, 0, Shape::B),
-                Part::at(1, 1, Shape::B),
-                Part::at(0, 1, Shape::D),
-            ],
-            Shape::C => [
-                Part::at(1, 1, Shape::D),
-                Part::at(0, 1, Shape::C),
-                Part::at(0, 0, Shape::C),
-                Part::at(1, 0, Shape::A),
-            ],
-            Shape::D => [
-                Part::at(1, 1, Shape::C),
-                Part::at(1, 0, Shape::D),
-                Part::at(0, 0, Shape::D),
-                Part::at(0, 1, Shape::B),
-            ],
-        };
-        parts[n]
-    }
-}
-
-fn draw(out: &mut [u16; CELLS], shape: Shape, square: Square)
+#[cycle(draw_a_draw_b_draw_c_draw_d)]
+fn draw_a(out: &mut [u16; CELLS], square: Square)
     requires { Fits square }
-    ensures { out.new ≡ drawn (shape_of shape) square out.old }
+    ensures { out.new ≡ drawn ShapeA square out.old }
 {
     if square.order == 0 {
         square.number_cell(out);
         return;
     }
-    for n in 0..PARTS {
-        let part = shape.part(n);
-        draw(out, part.shape, square.quarter(n, part.corner));
+    draw_b(out, square.quarter(0, LOWER_LEFT));
+    draw_a(out, square.quarter(1, UPPER_LEFT));
+    draw_a(out, square.quarter(2, UPPER_RIGHT));
+    draw_c(out, square.quarter(3, LOWER_RIGHT));
+}
+
+#[cycle(draw_a_draw_b_draw_c_draw_d)]
+fn draw_b(out: &mut [u16; CELLS], square: Square)
+    requires { Fits square }
+    ensures { out.new ≡ drawn ShapeB square out.old }
+{
+    if square.order == 0 {
+        square.number_cell(out);
+        return;
     }
+    draw_a(out, square.quarter(0, LOWER_LEFT));
+    draw_b(out, square.quarter(1, LOWER_RIGHT));
+    draw_b(out, square.quarter(2, UPPER_RIGHT));
+    draw_d(out, square.quarter(3, UPPER_LEFT));
+}
+
+#[cycle(draw_a_draw_b_draw_c_draw_d)]
+fn draw_c(out: &mut [u16; CELLS], square: Square)
+    requires { Fits square }
+    ensures { out.new ≡ drawn ShapeC square out.old }
+{
+    if square.order == 0 {
+        square.number_cell(out);
+        return;
+    }
+    draw_d(out, square.quarter(0, UPPER_RIGHT));
+    draw_c(out, square.quarter(1, UPPER_LEFT));
+    draw_c(out, square.quarter(2, LOWER_LEFT));
+    draw_a(out, square.quarter(3, LOWER_RIGHT));
+}
+
+#[cycle(draw_a_draw_b_draw_c_draw_d)]
+fn draw_d(out: &mut [u16; CELLS], square: Square)
+    requires { Fits square }
+    ensures { out.new ≡ drawn ShapeD square out.old }
+{
+    if square.order == 0 {
+        square.number_cell(out);
+        return;
+    }
+    draw_c(out, square.quarter(0, UPPER_RIGHT));
+    draw_d(out, square.quarter(1, LOWER_RIGHT));
+    draw_d(out, square.quarter(2, LOWER_LEFT));
+    draw_b(out, square.quarter(3, UPPER_LEFT));
 }
 
 // The curve table of the grid, each cell's number by 32 times its row and its column: shape A drawn in the whole grid.
@@ -99,6 +87,6 @@ pub fn drawn_curve() -> [u16; CELLS]
         row: 0,
         first: 0,
     };
-    draw(&mut numbers, Shape::A, grid);
+    draw_a(&mut numbers, grid);
     numbers
 }

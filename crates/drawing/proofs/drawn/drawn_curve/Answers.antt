@@ -5,4 +5,4 @@ use Rattle.drawing.proofs.DrawnLaws.{drawn_is_curve}
 use Rattle.drawing.proofs.drawn.drawn_curve.Goals as goal
 
 pub returns : goal.returns
-returns c = rw c.draw.ensures (drawn_is_curve _ (length-replicate {A = ℕ} 1024 0))
+returns c = rw c.draw_a.ensures (drawn_is_curve _ (length-replicate {A = ℕ} 1024 0))
