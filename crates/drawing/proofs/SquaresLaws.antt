@@ -3,7 +3,6 @@
 use mathlib.Core.Path.{◌≡◌, ap, ◌∙◌}
 use Prim.Native.Nat.{ℕ, suc, ◌+◌, ◌-◌, ◌*◌, ◌^◌, ◌<◌}
 use native.Mathlib.Omega.{arith}
-use lib.Dec.{T, ltb, ltb→lt}
 use Rattle.grid.specs.declared.Cell.{Cell}
 use Rattle.shapes.specs.Claims.{cell_count}
 use Rattle.shapes.proofs.Squares.{twice, four_quarters, part_within}
@@ -27,6 +26,9 @@ module _ (square : Square) where
   four_parts h = ap cell_count (next_order h) ∙ four_quarters (square.order - 1)
 
   module _ (part : ℕ) (corner : Cell) where
+    pub quarter_lower : Cuts square part corner → (quarter_of square part corner).order < square.order
+    quarter_lower cuts = omega (arith, cuts.more)
+
     pub quarter_fits : Cuts square part corner → Fits (quarter_of square part corner)
     quarter_fits cuts =
         let f = cuts.fits in
@@ -39,27 +41,3 @@ module _ (square : Square) where
           rows = omega (arith, f.rows, part_within corner.row 2 s cuts.upper_of);
           numbers = omega (arith, f.numbers, part_within part 4 (s * s) cuts.part_of);
         }
-
--- a square of an order above 0 has its quarters
-pub cut :
-    {square : Square} {part : ℕ} {corner : Cell}
-    → T (ltb part 4)
-    → T (ltb corner.column 2)
-    → T (ltb corner.row 2)
-    → Fits square
-    → ((square.order ≡ 0) → ⊥)
-    → Cuts square part corner
-cut {square} {part} {corner} p r u fits more =
-    record { fits = fits; more = omega arith; part_of = ltb→lt part 4 p; right_of = ltb→lt corner.column 2 r; upper_of = ltb→lt corner.row 2 u }
-
--- which are of a lower order and lie on the grid
-pub quarter_lower :
-    (square : Square) {quarter : Square} (part : ℕ) (corner : Cell) {t : ℕ}
-    → square.order ≡ t
-    → quarter ≡ quarter_of square part corner
-    → ((square.order ≡ 0) → ⊥)
-    → quarter.order < t
-quarter_lower square part corner at is more = rw is (omega arith)
-
-pub quarter_on_grid : (square : Square) {quarter : Square} (part : ℕ) (corner : Cell) → quarter ≡ quarter_of square part corner → Cuts square part corner → Fits quarter
-quarter_on_grid square part corner is cuts = rw is (quarter_fits square part corner cuts)

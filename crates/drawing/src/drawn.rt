@@ -10,8 +10,11 @@ use grid::{CELLS, Cell};
 
 // The corners that a quarter lies at, as cells of a square of side 2.
 const LOWER_LEFT: Cell = Cell { column: 0, row: 0 };
+
 const LOWER_RIGHT: Cell = Cell { column: 1, row: 0 };
+
 const UPPER_LEFT: Cell = Cell { column: 0, row: 1 };
+
 const UPPER_RIGHT: Cell = Cell { column: 1, row: 1 };
 
 // These stay four functions: document 02 asks for shapes drawn by way of one another, four functions in a cycle of calls, the order falling at each call.

@@ -23,7 +23,9 @@ impl Square {
     // The quarter at a corner, a cell of a square of side 2, that is visited as the part of this number, from 0 on.
     pub fn quarter(self, part: usize, corner: Cell) -> Square
         requires { Cuts self part corner }
-        ensures { result ≡ quarter_of self part corner }
+        ensures cut { result ≡ quarter_of self part corner }
+        ensures lower { result.order < self.order }
+        ensures fits { Fits result }
     {
         let order = self.order - 1;
         let side = side_of(order);

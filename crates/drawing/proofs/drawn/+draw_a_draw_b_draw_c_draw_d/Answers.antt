@@ -2,7 +2,6 @@
 -- shape's four parts.
 use Rattle.std.proofs.Common.{◌∙◌, sym, arith}
 use Rattle.shapes.specs.Shapes.{ShapeA, ShapeB, ShapeC, ShapeD, part_of}
-use Rattle.drawing.proofs.SquaresLaws.{cut, quarter_lower, quarter_on_grid}
 use Rattle.drawing.proofs.DrawnLaws.{drawn_cell, drawn_in_four}
 use Rattle.drawing.proofs.drawn.+draw_a_draw_b_draw_c_draw_d.Goals as goal
 
@@ -11,89 +10,41 @@ use Rattle.drawing.proofs.drawn.+draw_a_draw_b_draw_c_draw_d.Goals as goal
 pub draw_a-returns-then-square-eq0 : goal.draw_a-returns-then-square-eq0
 draw_a-returns-then-square-eq0 t c = c.number_cell.ensures ∙ sym (drawn_cell ShapeA c.args.square c.args.out.now c.if-square-eq0.true)
 
-pub draw_a-draw_b-requires : goal.draw_a-draw_b-requires
-draw_a-draw_b-requires t c = (search quarter_lower, search (quarter_on_grid, cut))
-
-pub draw_a-draw_a-requires : goal.draw_a-draw_a-requires
-draw_a-draw_a-requires t c = (search quarter_lower, search (quarter_on_grid, cut))
-
-pub draw_a-draw_a-requires-2 : goal.draw_a-draw_a-requires-2
-draw_a-draw_a-requires-2 t c = (search quarter_lower, search (quarter_on_grid, cut))
-
-pub draw_a-draw_c-requires : goal.draw_a-draw_c-requires
-draw_a-draw_c-requires t c = (search quarter_lower, search (quarter_on_grid, cut))
-
 pub draw_a-returns : goal.draw_a-returns
 unfolding part_of
 draw_a-returns t c =
-    drawn_in_four ShapeA c.args.square (omega (arith, c.if-square-eq0.false)) c.args.out.now c.quarter.ensures c.quarter-2.ensures
-    c.quarter-3.ensures c.quarter-4.ensures c.draw_b.ensures c.draw_a.ensures c.draw_a-2.ensures c.draw_c.ensures
+    drawn_in_four ShapeA c.args.square (omega (arith, c.if-square-eq0.false)) c.args.out.now c.quarter.ensures.cut c.quarter-2.ensures.cut
+    c.quarter-3.ensures.cut c.quarter-4.ensures.cut c.draw_b.ensures c.draw_a.ensures c.draw_a-2.ensures c.draw_c.ensures
 
 -- ---- shape B
 
 pub draw_b-returns-then-square-eq0 : goal.draw_b-returns-then-square-eq0
 draw_b-returns-then-square-eq0 t c = c.number_cell.ensures ∙ sym (drawn_cell ShapeB c.args.square c.args.out.now c.if-square-eq0.true)
 
-pub draw_b-draw_a-requires : goal.draw_b-draw_a-requires
-draw_b-draw_a-requires t c = (search quarter_lower, search (quarter_on_grid, cut))
-
-pub draw_b-draw_b-requires : goal.draw_b-draw_b-requires
-draw_b-draw_b-requires t c = (search quarter_lower, search (quarter_on_grid, cut))
-
-pub draw_b-draw_b-requires-2 : goal.draw_b-draw_b-requires-2
-draw_b-draw_b-requires-2 t c = (search quarter_lower, search (quarter_on_grid, cut))
-
-pub draw_b-draw_d-requires : goal.draw_b-draw_d-requires
-draw_b-draw_d-requires t c = (search quarter_lower, search (quarter_on_grid, cut))
-
 pub draw_b-returns : goal.draw_b-returns
 unfolding part_of
 draw_b-returns t c =
-    drawn_in_four ShapeB c.args.square (omega (arith, c.if-square-eq0.false)) c.args.out.now c.quarter.ensures c.quarter-2.ensures
-    c.quarter-3.ensures c.quarter-4.ensures c.draw_a.ensures c.draw_b.ensures c.draw_b-2.ensures c.draw_d.ensures
+    drawn_in_four ShapeB c.args.square (omega (arith, c.if-square-eq0.false)) c.args.out.now c.quarter.ensures.cut c.quarter-2.ensures.cut
+    c.quarter-3.ensures.cut c.quarter-4.ensures.cut c.draw_a.ensures c.draw_b.ensures c.draw_b-2.ensures c.draw_d.ensures
 
 -- ---- shape C
 
 pub draw_c-returns-then-square-eq0 : goal.draw_c-returns-then-square-eq0
 draw_c-returns-then-square-eq0 t c = c.number_cell.ensures ∙ sym (drawn_cell ShapeC c.args.square c.args.out.now c.if-square-eq0.true)
 
-pub draw_c-draw_d-requires : goal.draw_c-draw_d-requires
-draw_c-draw_d-requires t c = (search quarter_lower, search (quarter_on_grid, cut))
-
-pub draw_c-draw_c-requires : goal.draw_c-draw_c-requires
-draw_c-draw_c-requires t c = (search quarter_lower, search (quarter_on_grid, cut))
-
-pub draw_c-draw_c-requires-2 : goal.draw_c-draw_c-requires-2
-draw_c-draw_c-requires-2 t c = (search quarter_lower, search (quarter_on_grid, cut))
-
-pub draw_c-draw_a-requires : goal.draw_c-draw_a-requires
-draw_c-draw_a-requires t c = (search quarter_lower, search (quarter_on_grid, cut))
-
 pub draw_c-returns : goal.draw_c-returns
 unfolding part_of
 draw_c-returns t c =
-    drawn_in_four ShapeC c.args.square (omega (arith, c.if-square-eq0.false)) c.args.out.now c.quarter.ensures c.quarter-2.ensures
-    c.quarter-3.ensures c.quarter-4.ensures c.draw_d.ensures c.draw_c.ensures c.draw_c-2.ensures c.draw_a.ensures
+    drawn_in_four ShapeC c.args.square (omega (arith, c.if-square-eq0.false)) c.args.out.now c.quarter.ensures.cut c.quarter-2.ensures.cut
+    c.quarter-3.ensures.cut c.quarter-4.ensures.cut c.draw_d.ensures c.draw_c.ensures c.draw_c-2.ensures c.draw_a.ensures
 
 -- ---- shape D
 
 pub draw_d-returns-then-square-eq0 : goal.draw_d-returns-then-square-eq0
 draw_d-returns-then-square-eq0 t c = c.number_cell.ensures ∙ sym (drawn_cell ShapeD c.args.square c.args.out.now c.if-square-eq0.true)
 
-pub draw_d-draw_c-requires : goal.draw_d-draw_c-requires
-draw_d-draw_c-requires t c = (search quarter_lower, search (quarter_on_grid, cut))
-
-pub draw_d-draw_d-requires : goal.draw_d-draw_d-requires
-draw_d-draw_d-requires t c = (search quarter_lower, search (quarter_on_grid, cut))
-
-pub draw_d-draw_d-requires-2 : goal.draw_d-draw_d-requires-2
-draw_d-draw_d-requires-2 t c = (search quarter_lower, search (quarter_on_grid, cut))
-
-pub draw_d-draw_b-requires : goal.draw_d-draw_b-requires
-draw_d-draw_b-requires t c = (search quarter_lower, search (quarter_on_grid, cut))
-
 pub draw_d-returns : goal.draw_d-returns
 unfolding part_of
 draw_d-returns t c =
-    drawn_in_four ShapeD c.args.square (omega (arith, c.if-square-eq0.false)) c.args.out.now c.quarter.ensures c.quarter-2.ensures
-    c.quarter-3.ensures c.quarter-4.ensures c.draw_c.ensures c.draw_d.ensures c.draw_d-2.ensures c.draw_b.ensures
+    drawn_in_four ShapeD c.args.square (omega (arith, c.if-square-eq0.false)) c.args.out.now c.quarter.ensures.cut c.quarter-2.ensures.cut
+    c.quarter-3.ensures.cut c.quarter-4.ensures.cut c.draw_c.ensures c.draw_d.ensures c.draw_d-2.ensures c.draw_b.ensures
