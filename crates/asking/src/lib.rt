@@ -64,7 +64,7 @@ fn method_of(ask: Ask) -> Method
     requires { between (pos 0) (pos 3) ask.method ≡ true }
     ensures { number_of result ≡ up ask.method }
 {
-    Method::from_number(ask.method as usize)
+    choosing::choose::method_of(ask.method as usize)
 }
 
 // Cells chosen in a live phase by the rows of its slot, as marks, and the rounds of the choice.

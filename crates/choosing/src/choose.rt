@@ -1,4 +1,5 @@
 // The four methods over the rows of one slot of a lent table.
+ghost use Rattle.std.specs.Prelude.{◌≡◌, min};
 ghost use Rattle.rows.specs.Row.{empty_row};
 ghost use Rattle.methods.specs.Aims.{aim_of};
 ghost use Rattle.methods.specs.Methods.{cells_found, expanded_block, naive_block, semi_naive_block, iterative_search, iterated, most_rounds};
@@ -99,6 +100,18 @@ fn mark_found(found: Option<Block>, marks: &mut [u8])
 {
     if let Some(block) = found {
         mark_block(block, marks);
+    }
+}
+
+// The method of a number; every number from 3 on is the optimal method.
+pub fn method_of(number: usize) -> Method
+    ensures { number_of result ≡ min number 3 }
+{
+    match number {
+        0 => Method::Naive,
+        1 => Method::SemiNaive,
+        2 => Method::Iterative,
+        _ => Method::Optimal,
     }
 }
 

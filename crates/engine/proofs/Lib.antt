@@ -1,4 +1,4 @@
 pub mod ChecksLaws
 pub mod GivesLaws
 pub mod IndexSmallLaws
-pub mod Spans
+pub mod ChecksSpans

@@ -2,9 +2,6 @@
 // windows. The code is in crates/choosing.
 #![tactic(auto)]
 
-ghost use Rattle.std.specs.Prelude.{◌≡◌, min};
-ghost use Rattle.methods.specs.Numbered.{number_of};
-
 use grid::Rect;
 
 // A timeslice query seen from a phase's reference time: its rectangle, at d seconds after that time, or before it where d is below 0.
@@ -45,18 +42,4 @@ pub enum Method {
     SemiNaive,
     Iterative,
     Optimal,
-}
-
-impl Method {
-    // The method of a number; every number from 3 on is the optimal method.
-    pub fn from_number(number: usize) -> Method
-        ensures { number_of result ≡ min number 3 }
-    {
-        match number {
-            0 => Method::Naive,
-            1 => Method::SemiNaive,
-            2 => Method::Iterative,
-            _ => Method::Optimal,
-        }
-    }
 }

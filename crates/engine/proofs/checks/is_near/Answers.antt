@@ -3,7 +3,7 @@ use Rattle.std.proofs.Common.{◌≡◌, ◌∙◌, arith, pos, ◌+ℤ◌, ◌-
 use mir.Facts.{to_z-of_z}
 use Rattle.ints.proofs.Parts.{abs, add, sub}
 use Rattle.ints.proofs.Machine.{fits}
-use Rattle.engine.proofs.Spans.{in_order_is}
+use Rattle.engine.proofs.ChecksSpans.{in_order_is}
 use Rattle.engine.proofs.checks.is_near.Goals as goal
 
 pub returns : goal.returns

@@ -3,7 +3,7 @@ use Rattle.std.proofs.Common.{◌≡◌, ◌∙◌, arith, pos, ◌+ℤ◌, w32,
 use mir.Facts.{to_z-of_z}
 use Rattle.ints.proofs.Parts.{add}
 use Rattle.ints.proofs.Machine.{fits, of_fits, held}
-use Rattle.engine.proofs.Spans.{in_order_is}
+use Rattle.engine.proofs.ChecksSpans.{in_order_is}
 use Rattle.engine.proofs.checks.is_span.Goals as goal
 
 pub returns : goal.returns
