@@ -16,7 +16,7 @@ mod curve_table;
 mod moments;
 mod places;
 
-pub use curve::{curve_numbers, number_in};
+pub use curve::{CurveNumbers, curve_numbers, number_in};
 pub use places::{cell_of, column_of, position_after, row_of};
 
 // Columns on the grid, and rows.
