@@ -1,10 +1,9 @@
--- What the functions that judge a store ask: the curve's table, times and reports in their ranges, words enough for some records; and the marks by which ids
+-- What the functions that judge a store ask: times and reports in their ranges, words enough for some records; and the marks by which ids
 -- are told apart.
 -- Assumes nothing.
 use Rattle.std.specs.Prelude.{◌≡◌, Bool, true, not, List, ℕ, ◌/◌, ◌%◌, ◌^◌, ◌≤◌, ◌<◌, eqb, ℤ, length, get_or, set}
 use Rattle.std.specs.Int.Bits.{bit_and, bit_or}
 use Rattle.grid.specs.Units.{cells, id_marks}
-use Rattle.grid.specs.Curve.{IsCurve}
 use Rattle.grid.specs.Reports.{is_time, in_range}
 use Rattle.grid.specs.declared.Report.{Report}
 use Rattle.rows.specs.Phases.{slots, last_phase}
@@ -19,19 +18,14 @@ pub record CellOfSlot (slot number : ℕ) : Type 0 where
   pub within : number < cells
 
 -- a report whose key in a phase is asked for
-pub record CanKey (numbers : List ℕ) (p : ℕ) (r : Report) : Type 0 where
-  pub curve : IsCurve numbers
+pub record CanKey (p : ℕ) (r : Report) : Type 0 where
   pub not_late : p ≤ last_phase
   pub in_range_lem : in_range r ≡ true
   pub sent : is_time r.t ≡ true
 
 -- a time at which records are judged, and a record whose key is judged at it
-pub record CanJudge (numbers : List ℕ) (time : ℤ) : Type 0 where
-  pub curve : IsCurve numbers
+pub record CanJudgeKey (time : ℤ) (r : Record) : Type 0 where
   pub is_time_lem : is_time time ≡ true
-
-pub record CanJudgeKey (numbers : List ℕ) (time : ℤ) (r : Record) : Type 0 where
-  pub judge : CanJudge numbers time
   pub in_range_lem : in_range r.report ≡ true
   pub sent : is_time r.report.t ≡ true
 

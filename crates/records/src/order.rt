@@ -6,7 +6,7 @@ ghost use Rattle.records.specs.Order.{key_at, key_in, slot_of_key, number_of_key
 ghost use Rattle.records.specs.Needs.{CellOfSlot, CanKey};
 
 use crate::{RECORD_WORDS, Record};
-use grid::Report;
+use grid::{CurveNumbers, Report};
 
 // The slot of a key.
 pub fn slot_of_key(key: i32) -> usize
@@ -75,12 +75,11 @@ pub fn key_of(slot: usize, number: usize) -> i32
     (slot * grid::CELLS + number) as i32
 }
 
-// The key of a report in phase p: the slot, and the curve number of the cell at the phase's reference time. `numbers` is the grid's table of curve
-// numbers.
-pub fn key_in(numbers: &[u16; grid::CELLS], p: usize, r: Report) -> i32
-    requires { CanKey numbers.now p r }
+// The key of a report in phase p: the slot, and the curve number of the cell at the phase's reference time.
+pub fn key_in(curve: &CurveNumbers, p: usize, r: Report) -> i32
+    requires { CanKey p r }
     ensures { result ≡ key_in p r }
 {
-    let number = grid::number_in(numbers, r.cell_at(rows::reference_time(p)));
+    let number = curve.number_of(r.cell_at(rows::reference_time(p)));
     key_of(rows::slot_of(p), number)
 }

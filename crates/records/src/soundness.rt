@@ -7,11 +7,11 @@ ghost use Rattle.rows.specs.Row.{drift_of};
 ghost use Rattle.records.specs.Records.{record_words, store_words, now_of, held_of, all_records, records_of};
 ghost use Rattle.records.specs.Order.{is_sorted};
 ghost use Rattle.records.specs.Soundness.{all_zero, key_is_right, is_sound_record, all_sound, ids_distinct, is_sound_header, is_sound_store, in_own_row, speeds_in_rows, is_sound, all_ranged};
-ghost use Rattle.records.specs.Needs.{mark_bit, is_marked, with_mark, CanJudgeKey, CanJudge, CanFindRow, CanFindRows, HasHeader};
+ghost use Rattle.records.specs.Needs.{mark_bit, is_marked, with_mark, CanJudgeKey, CanFindRow, CanFindRows, HasHeader};
 
 use crate::order::{is_sorted, key_in, number_of_key, phase_at, phase_of_key, slot_of_key};
 use crate::{CAPACITY, RECORD_WORDS, Record, STORE_WORDS, held_of};
-use grid::{LAST_ID, LAST_POSITION, LAST_TIME, Report};
+use grid::{CurveNumbers, LAST_ID, LAST_POSITION, LAST_TIME, Report};
 use rows::{Drift, Row};
 
 // The bytes of the marks of all ids, eight to a byte.
@@ -54,20 +54,20 @@ fn all_zero(words: &[i32]) -> bool
 }
 
 // Whether the key is right for a live phase not before that of t.
-fn key_is_right(numbers: &[u16; grid::CELLS], time: i32, r: Record) -> bool
-    requires { CanJudgeKey numbers.now time r }
+fn key_is_right(curve: &CurveNumbers, time: i32, r: Record) -> bool
+    requires { CanJudgeKey time r }
     ensures { result ≡ key_is_right time r }
 {
     let p = phase_of_key(phase_at(time), r.key);
-    phase_at(r.report.t) <= p && r.key == key_in(numbers, p, r.report)
+    phase_at(r.report.t) <= p && r.key == key_in(curve, p, r.report)
 }
 
 // Ranges, t at most now, key right.
-fn is_sound_record(numbers: &[u16; grid::CELLS], time: i32, r: Record) -> bool
-    requires { CanJudge numbers.now time }
+fn is_sound_record(curve: &CurveNumbers, time: i32, r: Record) -> bool
+    requires { is_time time ≡ true }
     ensures { result ≡ is_sound_record time r }
 {
-    in_range(r.report) && (0..=time).contains(&r.report.t) && key_is_right(numbers, time, r)
+    in_range(r.report) && (0..=time).contains(&r.report.t) && key_is_right(curve, time, r)
 }
 
 // Whether each record of some words is sound, in one pass.
@@ -75,12 +75,10 @@ fn all_sound(words: &[i32], time: i32) -> bool
     requires { is_time time ≡ true }
     ensures { result ≡ all_sound time (all_records words.now) }
 {
-    let numbers = grid::curve_numbers();
-    words.chunks_exact(RECORD_WORDS).all(|w| is_sound_record(
-        &numbers,
-        time,
-        Record::read_from(w, 0),
-    ))
+    let curve = CurveNumbers::new();
+    words
+        .chunks_exact(RECORD_WORDS)
+        .all(|w| is_sound_record(&curve, time, Record::read_from(w, 0)))
 }
 
 // The bit of an id in its byte of marks.

@@ -4,7 +4,6 @@
 use Rattle.std.specs.Prelude.{◌≡◌, Bool, true, List, ◌++◌, ℕ, ◌+◌, ◌-◌, ◌*◌, ◌/◌, ◌≤◌, ◌<◌, ℤ, pos, length, take, drop, set, replicate}
 use Rattle.ints.specs.Lists.{passing}
 use Rattle.grid.specs.Units.{capacity}
-use Rattle.grid.specs.Curve.{IsCurve}
 use Rattle.grid.specs.Reports.{is_time, in_range}
 use Rattle.grid.specs.declared.Report.{Report}
 use Rattle.rows.specs.Phases.{phase_of, last_phase}
@@ -113,15 +112,11 @@ pub record MergeInAsked (s b space : List ℤ) : Type 0 where
 
 -- ---- stepping.rt: a report placed, and the clock step from now to a time
 
--- a phase and a report to place in it; the function that is lent the curve numbers asks that they are those of the curve
+-- a phase and a report to place in it
 pub record ReportAsked (p : ℕ) (r : Report) : Type 0 where
   pub phase : p ≤ last_phase
   pub in_range_lem : in_range r ≡ true
   pub is_time_lem : is_time r.t ≡ true
-
-pub record PlaceByAsked (numbers : List ℕ) (p : ℕ) (r : Report) : Type 0 where
-  pub curve : IsCurve numbers
-  pub report : ReportAsked p r
 
 -- two times to step between
 pub record AreTimes (now time : ℤ) : Type 0 where

@@ -8,12 +8,12 @@ ghost use Rattle.store.specs.Inserting.{inserted_all};
 ghost use Rattle.store.specs.Sorting.{all_of};
 ghost use Rattle.store.specs.Widening.{widened_by_all};
 ghost use Rattle.store.specs.Stepping.{placed_in, lives_on, moves, replaced, moved_records};
-ghost use Rattle.store.specs.Needs.{ReportAsked, PlaceByAsked, AreTimes, IsStep, TakeAsked, KeptFirst, Taken, PlaceAsked, StepAsked};
+ghost use Rattle.store.specs.Needs.{ReportAsked, AreTimes, IsStep, TakeAsked, KeptFirst, Taken, PlaceAsked, StepAsked};
 
 use super::sorting::put_all;
 use super::widening::widen_all;
 use super::writing::{keep_first, write_record};
-use grid::Report;
+use grid::{CurveNumbers, Report};
 use records::order::{key_in, phase_of_key};
 use records::{RECORD_WORDS, Record, held_of};
 use rows::{is_live, phase_of};
@@ -49,13 +49,13 @@ impl Step {
     }
 }
 
-// A report placed in phase p. `numbers` is the grid's table of curve numbers.
-fn place_by(numbers: &[u16; grid::CELLS], p: usize, r: Report) -> Record
-    requires { PlaceByAsked numbers.now p r }
+// A report placed in phase p, by the curve numbers that a pass holds.
+fn place_by(curve: &CurveNumbers, p: usize, r: Report) -> Record
+    requires { ReportAsked p r }
     ensures { result ≡ placed_in p r }
 {
     Record {
-        key: key_in(numbers, p, r),
+        key: key_in(curve, p, r),
         report: r,
     }
 }
@@ -64,8 +64,7 @@ pub fn place_in(p: usize, r: Report) -> Record
     requires { ReportAsked p r }
     ensures { result ≡ placed_in p r }
 {
-    let numbers = grid::curve_numbers();
-    place_by(&numbers, p, r)
+    place_by(&CurveNumbers::new(), p, r)
 }
 
 // One pass over the records: one that stays is written after those kept before it, any other to `dead`, placed in the phase of the time. Gives back how
@@ -76,7 +75,7 @@ fn keep_live(store: &mut [i32], step: Step, dead: &mut [i32]) -> usize
     ensures kept_first { KeptFirst (lives_on step.now step.time) store.old result store.new }
     ensures taken { Taken (phase_of step.time) (moves step.now step.time) (records_of store.old) (held_of store.old - result) dead.new }
 {
-    let numbers = grid::curve_numbers();
+    let curve = CurveNumbers::new();
     let mut k = 0;
     for i in 0..held_of(store) {
         let r = Record::read_from(store, RECORD_WORDS * i + RECORD_WORDS);
@@ -87,7 +86,7 @@ fn keep_live(store: &mut [i32], step: Step, dead: &mut [i32]) -> usize
             write_record(
                 dead,
                 RECORD_WORDS * (i - k),
-                place_by(&numbers, step.to, r.report),
+                place_by(&curve, step.to, r.report),
             );
         }
     }

@@ -16,9 +16,9 @@ key_is_right-requires c =
     let e : c.if-in_range.value ≡ ranges && past = elim c.if-in_range.branch [ then-in_range w ↦ search rules | else-in_range w ↦ search rules ] in
     let f : ranges && past ≡ true = sym e ∙ c.if-contains.true in
     rw (to_z-of_z w32 c.args.time (search rules)) (record {
-      judge = c.requires;
+      is_time_lem = c.requires;
       in_range_lem = and_left ranges past f;
-      sent = earlier_time c.args.time c.args.r.report.t c.requires.is_time_lem (and_right ranges past f);
+      sent = earlier_time c.args.time c.args.r.report.t c.requires (and_right ranges past f);
     })
 
 pub returns-then-contains : goal.returns-then-contains

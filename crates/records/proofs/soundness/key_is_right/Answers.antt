@@ -23,8 +23,7 @@ key_in-requires c =
     let p : c.phase_at.result ≡ phase_of c.args.time = simp to_z-of_z at c.phase_at.ensures in
     let key = to_z w32 (of_z w32 c.args.r.key) in
     record {
-      curve = c.requires.judge.curve;
-      not_late = omega (arith, last_phase_lem c.args.time c.requires.judge.is_time_lem, phase_of_key-small c.phase_at.result key, c.phase_of_key-p.ensures);
+      not_late = omega (arith, last_phase_lem c.args.time c.requires.is_time_lem, phase_of_key-small c.phase_at.result key, c.phase_of_key-p.ensures);
       in_range_lem = c.requires.in_range_lem;
       sent = c.requires.sent;
     }

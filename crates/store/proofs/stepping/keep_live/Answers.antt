@@ -14,10 +14,7 @@ pub place_by-requires : goal.place_by-requires
 place_by-requires c =
     let is-ranged = now_ranged _ _ _ _ _ _ c.loop-i.invariant.keeping (omega arith) _ c.read_from-r.ensures in
     let g = ranged_parts c.read_from-r.result is-ranged in
-    record {
-      curve = c.curve_numbers-numbers.ensures;
-      report = record { phase = to_small c.args.step c.requires.is_step; in_range_lem = g.report; is_time_lem = g.time };
-    }
+    record { phase = to_small c.args.step c.requires.is_step; in_range_lem = g.report; is_time_lem = g.time }
 
 pub loop-i-preserved : goal.loop-i-preserved
 loop-i-preserved c =
