@@ -3,7 +3,6 @@
 use Rattle.std.specs.Prelude.{◌≡◌, List, ℕ, ◌<◌, length, replicate}
 use Rattle.grid.specs.Units.{side, cells}
 use Rattle.grid.specs.Places.{OnGrid}
-use Rattle.grid.specs.Curve.{IsCurve}
 use Rattle.grid.specs.declared.Cell.{Cell}
 use Rattle.methods.specs.Claims.{ValidRows}
 use Rattle.methods.specs.Marks.{with_cells}
@@ -27,13 +26,11 @@ pub record CanMarkBlock (b : Block) (marks : List ℕ) : Type 0 where
   pub block_on : BlockOnGrid b
   pub one_each : length marks ≡ cells
 
-pub record CanMarkRow (numbers : List ℕ) (b : Block) (row : ℕ) (marks : List ℕ) : Type 0 where
-  pub curve : IsCurve numbers
+pub record CanMarkRow (b : Block) (row : ℕ) (marks : List ℕ) : Type 0 where
   pub of_block : CanMarkBlock b marks
   pub row_on : row < side
 
-pub record CanMarkCell (numbers : List ℕ) (c : Cell) (marks : List ℕ) : Type 0 where
-  pub curve : IsCurve numbers
+pub record CanMarkCell (c : Cell) (marks : List ℕ) : Type 0 where
   pub on_grid : OnGrid c
   pub one_each : length marks ≡ cells
 

@@ -14,6 +14,7 @@ use crate::bounds::{block_bounds, phase_bounds};
 use crate::mark::{clear, mark_block};
 use crate::reached::mark_reached;
 use crate::slot::SlotRows;
+use grid::CurveNumbers;
 use methods::{Block, Method, View};
 use reaching::{block_of, expanded};
 use rows::Row;
@@ -94,12 +95,12 @@ fn iterative_search(rows: &SlotRows, view: View) -> Searched
 }
 
 // Marks the cells of a block, if there is one.
-fn mark_found(found: Option<Block>, marks: &mut [u8])
+fn mark_found(curve: &CurveNumbers, found: Option<Block>, marks: &mut [u8])
     requires { CanMarkFound found marks.old }
     ensures { Marked marks.old (cells_found (found_of found)) marks.new }
 {
     if let Some(block) = found {
-        mark_block(block, marks);
+        mark_block(curve, block, marks);
     }
 }
 
@@ -124,16 +125,16 @@ pub fn choose(table: &[i16], slot: usize, method: Method, view: View, marks: &mu
     let rows = SlotRows::new(table, slot);
     match method {
         Method::Naive => {
-            mark_found(naive_block(&rows, view), marks);
+            mark_found(&rows.curve, naive_block(&rows, view), marks);
             0
         }
         Method::SemiNaive => {
-            mark_found(semi_naive_block(&rows, view), marks);
+            mark_found(&rows.curve, semi_naive_block(&rows, view), marks);
             0
         }
         Method::Iterative => {
             let searched = iterative_search(&rows, view);
-            mark_found(searched.found, marks);
+            mark_found(&rows.curve, searched.found, marks);
             searched.rounds
         }
         Method::Optimal => {

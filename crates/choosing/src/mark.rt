@@ -5,7 +5,7 @@ ghost use Rattle.methods.specs.Reach.{columns_of, cells_of_row, cells_of};
 ghost use Rattle.methods.specs.Marks.{with_cells};
 ghost use Rattle.choosing.specs.Mark.{no_marks, Marked, CanMarkBlock, CanMarkRow, CanMarkCell};
 
-use grid::Cell;
+use grid::{Cell, CurveNumbers};
 use methods::Block;
 
 // Every mark taken away.
@@ -16,32 +16,30 @@ pub fn clear(marks: &mut [u8])
     marks.fill(0);
 }
 
-// Marks a cell. Here and below `numbers` is the grid's table of curve numbers, which a pass holds from its first cell to its last. No slot is asked for, as
-// SlotRows would.
-fn mark_cell(numbers: &[u16; grid::CELLS], c: Cell, marks: &mut [u8])
-    requires { CanMarkCell numbers.now c marks.old }
+// Marks a cell. Here and below the curve numbers are lent alone: no slot is asked for, as SlotRows would.
+fn mark_cell(curve: &CurveNumbers, c: Cell, marks: &mut [u8])
+    requires { CanMarkCell c marks.old }
     ensures { marks.new ≡ with_cells marks.old (c ∷ []) }
 {
-    marks[grid::number_in(numbers, c)] = 1;
+    marks[curve.number_of(c)] = 1;
 }
 
 // Marks a block's cells of one row.
-fn mark_row(numbers: &[u16; grid::CELLS], b: Block, row: usize, marks: &mut [u8])
-    requires { CanMarkRow numbers.now b row marks.old }
+fn mark_row(curve: &CurveNumbers, b: Block, row: usize, marks: &mut [u8])
+    requires { CanMarkRow b row marks.old }
     ensures { Marked marks.old (cells_of_row row b.first_column (columns_of b)) marks.new }
 {
     for column in b.first_column..=b.last_column {
-        mark_cell(numbers, Cell { column, row }, marks);
+        mark_cell(curve, Cell { column, row }, marks);
     }
 }
 
 // Marks a block's cells.
-pub fn mark_block(b: Block, marks: &mut [u8])
+pub fn mark_block(curve: &CurveNumbers, b: Block, marks: &mut [u8])
     requires { CanMarkBlock b marks.old }
     ensures { Marked marks.old (cells_of b) marks.new }
 {
-    let numbers = grid::curve_numbers();
     for row in b.first_row..=b.last_row {
-        mark_row(&numbers, b, row, marks);
+        mark_row(curve, b, row, marks);
     }
 }

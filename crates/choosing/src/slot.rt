@@ -1,17 +1,15 @@
-// The rows of one slot of a lent table, by cell and by place, with the grid's table of curve numbers, which a pass holds from its first cell to its last.
+// The rows of one slot of a lent table, by cell and by place, with the curve numbers by which they are found.
 ghost use Rattle.std.specs.Prelude.{◌≡◌};
-ghost use Rattle.grid.specs.Curve.{IsCurve};
 ghost use Rattle.rows.specs.Needs.{HasSlot};
 
-use grid::Cell;
+use grid::{Cell, CurveNumbers};
 use rows::Row;
 
 #[derive(Drop)]
 pub struct SlotRows<'a> {
-    pub numbers: [u16; grid::CELLS],
+    pub curve: CurveNumbers,
     pub table: &'a [i16],
     pub slot: usize,
-    pub ghost curve: { IsCurve numbers },
     pub ghost has_slot: { HasSlot table.now slot },
 }
 
@@ -27,7 +25,7 @@ impl<'a> SlotRows<'a> {
         ensures same_slot { result.slot ≡ slot }
     {
         SlotRows {
-            numbers: grid::curve_numbers(),
+            curve: CurveNumbers::new(),
             table,
             slot,
         }
@@ -38,7 +36,7 @@ impl<'a> SlotRows<'a> {
         requires { OnGrid c }
         ensures { result ≡ rows_in self.now c }
     {
-        Row::read(self.table, self.slot, grid::number_in(&self.numbers, c))
+        Row::read(self.table, self.slot, self.curve.number_of(c))
     }
 
     // The curve number of the cell at a place: places are counted row by row from the low corner.
@@ -46,7 +44,7 @@ impl<'a> SlotRows<'a> {
         requires { IsPlace place }
         ensures { result ≡ curve_number (cell_at place) }
     {
-        usize::from(self.numbers[place])
+        self.curve.number_at(place)
     }
 
     // The row of the cell at a place.

@@ -1,5 +1,4 @@
--- What the functions that judge a store ask: times and reports in their ranges, words enough for some records; and the marks by which ids
--- are told apart.
+-- What the functions that judge a store ask: times and reports in their ranges, words enough for some records; and the marks by which ids are told apart.
 -- Assumes nothing.
 use Rattle.std.specs.Prelude.{◌≡◌, Bool, true, not, List, ℕ, ◌/◌, ◌%◌, ◌^◌, ◌≤◌, ◌<◌, eqb, ℤ, length, get_or, set}
 use Rattle.std.specs.Int.Bits.{bit_and, bit_or}
