@@ -1,12 +1,19 @@
 // A single step, wrapping at 32 bits, and any other map of that kind.
-ghost use Rattle.std.specs.Prelude.{◌≡◌};
-ghost use Rattle.generator.specs.Generator.{mapped, one, step, doubled};
+ghost use Rattle.std.specs.Prelude.{◌≡◌, ◌*◌, ◌%◌};
+ghost use Rattle.generator.specs.Generator.{states, mapped, one, step, doubled};
 
 // A state times the factor, and the term added.
 #[derive(Clone, Copy)]
 pub struct Affine {
     pub factor: u32,
     pub term: u32,
+}
+
+// The helper that document 01 names for the step: of a product the lower 32 bits stay.
+fn wrapping_product(a: u32, b: u32) -> u32
+    ensures { result ≡ a * b % states }
+{
+    a.wrapping_mul(b)
 }
 
 impl Affine {
@@ -25,7 +32,7 @@ impl Affine {
     pub fn applied_to(self, s: u32) -> u32
         ensures { result ≡ mapped self s }
     {
-        self.factor.wrapping_mul(s).wrapping_add(self.term)
+        wrapping_product(self.factor, s).wrapping_add(self.term)
     }
 
     // The map done twice.
@@ -33,7 +40,7 @@ impl Affine {
         ensures { result ≡ doubled self }
     {
         Affine {
-            factor: self.factor.wrapping_mul(self.factor),
+            factor: wrapping_product(self.factor, self.factor),
             term: self.applied_to(self.term),
         }
     }

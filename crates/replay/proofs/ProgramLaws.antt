@@ -67,7 +67,7 @@ pub read_taken :
 read_taken (Ok came) chunk m m' (Ok taken) h a =
     let same : taken ≡ came = omega (arith, a.0, length-take-le came chunk h) in
     record { within = omega arith; takes = subst (λ (n : ℕ). Takes (take n chunk) m m') (sym same) a.1 }
-read_taken (Ok came) chunk m m' (Err stop) h a = first_of_part chunk came stop.taken m m' h a
+read_taken (Ok came) chunk m m' (Err stop) h a = first_of_part chunk came stop.taken m m' h a.1
 read_taken (Err e) chunk m m' (Ok taken) h a = absurd a
 read_taken (Err e) chunk m m' (Err stop) h a =
     subst (λ (n : ℕ). TakesFirst n chunk m m') (sym a.0) (subst (TakesFirst 0 chunk m) (sym a.1) (first_none chunk m))

@@ -1,6 +1,6 @@
 -- What the functions of the replay program that read and write leave: the session after the bytes that came, whatever the chunks.
 -- Assumes nothing.
-use Rattle.std.specs.Prelude.{◌≡◌, List, ℕ, ◌≤◌, length, take, Result, MatchResult, IsErrAnd}
+use Rattle.std.specs.Prelude.{◌≡◌, List, ℕ, ◌<◌, ◌≤◌, length, take, Result, MatchResult, IsErrAnd}
 use Rattle.history.specs.Points.{Point}
 use Rattle.answering.specs.Index.{words_in}
 use Rattle.streams.specs.declared.Failure.{Failure}
@@ -18,11 +18,12 @@ pub record TakesFirst (taken : ℕ) (chunk : List ℕ) (m m' : Buffers) : Type 0
   pub within : taken ≤ length chunk
   pub takes : Takes (take taken chunk) m m'
 
--- all of a chunk taken, or the first of its bytes where a write failed
+-- all of a chunk taken, or the first of its bytes where a write failed: of a chunk that has none nothing is written
 abbrev pub TakesChunk : List ℕ → Buffers → Buffers → Result ℕ Stopped → Type 0
-TakesChunk chunk m m' r = MatchResult r (λ taken. (taken ≡ length chunk) × Takes chunk m m') (λ stop. TakesFirst stop.taken chunk m m')
+TakesChunk chunk m m' r = MatchResult r (λ taken. (taken ≡ length chunk) × Takes chunk m m') (λ stop. (0 < length chunk) × TakesFirst stop.taken chunk m m')
 
--- the same of what `read` gave: as many bytes of the chunk as it says. Where it failed none is taken and nothing changed
+-- the same of what `read` gave: as many bytes of the chunk as it says, so that the input has ended exactly where it said 0. Where it failed none is taken and
+-- nothing changed
 abbrev pub AnswersRead : Result ℕ Failure → List ℕ → Buffers → Buffers → Result ℕ Stopped → Type 0
 AnswersRead read chunk m m' r = MatchResult read (λ came. TakesChunk (take came chunk) m m' r) (λ _. IsErrAnd r (λ stop. (stop.taken ≡ 0) × (m' ≡ m)))
 

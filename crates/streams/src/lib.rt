@@ -2,7 +2,7 @@
 // the input nor a failure. A failure is told in one line on standard error, which begins with the program's name and ends with the system's words.
 #![tactic(auto)]
 
-ghost use Rattle.std.specs.Prelude.{◌≤◌, length, IfOk};
+ghost use Rattle.std.specs.Prelude.{◌≡◌, ◌≤◌, length, IfOk};
 ghost use Rattle.streams.specs.Streams.{Moved, TakesSome};
 
 use std::io::{Error, ErrorKind, Print, Read, Stderr, Stdin, Stdout, Write};
@@ -18,10 +18,10 @@ pub enum Failure {
 // The standard streams of a program, and the name under which it tells a failure.
 #[derive(Clone, Copy)]
 pub struct Streams {
-    program: &'static [u8],
-    input: Stdin,
-    output: Stdout,
-    errors: Stderr,
+    pub program: &'static [u8],
+    pub input: Stdin,
+    pub output: Stdout,
+    pub errors: Stderr,
 }
 
 // Bytes enough for the system's words for an error, and its number.
@@ -69,7 +69,9 @@ impl Failure {
 
 impl Streams {
     // Those that `main` is given.
-    pub fn of(rt: &HostRuntime, program: &'static [u8]) -> Self {
+    pub fn of(rt: &HostRuntime, program: &'static [u8]) -> Self
+        ensures { result.program.now ≡ program.now }
+    {
         Streams {
             program,
             input: rt.stdin(),
@@ -130,6 +132,7 @@ impl Streams {
     // Writes all of it. A write may take a part: the next goes on behind it.
     pub fn write_out(self, out: &[u8]) -> Result<(), Failure> {
         let mut rest = out;
+        // How much a write takes is known only once it is made, so no `for` goes over it.
         while !rest.is_empty() {
             let put = self.write_some(rest)?;
             rest = &rest[put..];

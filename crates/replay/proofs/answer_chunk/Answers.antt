@@ -7,7 +7,8 @@ pub loop-from-init : goal.loop-from-init
 loop-from-init c = first_none c.args.chunk.now c.args.buffers.now
 
 pub returns-then-is_err : goal.returns-then-is_err
-returns-then-is_err c = let l = c.loop-from in let f = c.feed-fed in first_more _ l.from _ l.buffers _ f.new.out f.result l.invariant f.ensures
+returns-then-is_err c =
+    let l = c.loop-from in let f = c.feed-fed in (omega arith, first_more _ l.from _ l.buffers _ f.new.out f.result l.invariant f.ensures)
 
 pub loop-from-preserved : goal.loop-from-preserved
 loop-from-preserved c = let l = c.loop-from in let f = c.feed-fed in first_more _ l.from _ l.buffers _ f.new.out f.result l.invariant f.ensures
