@@ -1,7 +1,7 @@
 -- Where several stores are there and sound, each one is; their number is what their words have room for; and no more asks are accepted than made.
 -- Assumes nothing.
 use mathlib.Core.Path.{◌≡◌, refl, sym, ap, ap₂, subst, ◌∙◌}
-use mathlib.Core.Bool.{Bool, true, false, cond, ◌&&◌}
+use mathlib.Core.Bool.{Bool, true, false, cond}
 use mathlib.Core.List.{List}
 use mathlib.Core.Logic.{dite}
 use Prim.Native.Nat.{ℕ, zero, suc, ◌+◌, ◌*◌, ◌/◌, ◌≤◌, ◌<◌}
@@ -10,9 +10,12 @@ use native.Mathlib.Omega.{arith}
 use borrow.Author.Tests.{ltb-false, eqb-true}
 use lib.Dec.{eqb, ltb}
 use lib.IntN.{ℤ}
-use lib.ListN.{length}
+use lib.ListN.{length, get_or}
+use Rattle.std.specs.Bool.{MatchBool}
+use Rattle.std.specs.List.{range_with_len, AllWithin, HoldsAt}
+use Rattle.std.proofs.lemmas.List.FromFn.{length-range_with_len, get_or-range_with_len}
 use Rattle.ints.proofs.Parts.{true_false}
-use Rattle.ints.proofs.Truth.{and_left, and_right}
+use Rattle.ints.proofs.Truth.{and_true, and_left, and_right}
 use Rattle.rows.specs.Table.{table_words}
 use Rattle.records.specs.Records.{store_words}
 use Rattle.records.specs.Words.{Words, are_sound}
@@ -57,10 +60,6 @@ module _ (stores tables : List ℤ) where
       (λ q. ap (λ (i : ℕ). are_sound (part_at stores tables i)) q ∙ and_right (all_sound stores tables n) (are_sound (part_at stores tables n)) e)
       (λ q. sound_at n k (and_left (all_sound stores tables n) (are_sound (part_at stores tables n)) e) (omega (arith, q)))
 
-  pub sound_next : (k : ℕ) → all_sound stores tables (k + 1) ≡ all_sound stores tables k && are_sound (part_at stores tables k)
-  unfolding all_sound
-  sound_next k = let e : k + 1 ≡ suc k = omega arith in ap (all_sound stores tables) e
-
   -- where one of the first n is not sound, not all are
   pub not_all : (n k : ℕ) → k < n → are_sound (part_at stores tables k) ≡ false → false ≡ all_sound stores tables n
   not_all n k l e = go (all_sound stores tables n) refl
@@ -68,6 +67,28 @@ module _ (stores tables : List ℤ) where
       go : (b : Bool) → all_sound stores tables n ≡ b → false ≡ b
       go true h = absurd (true_false (sym (sound_at n k h l) ∙ e))
       go false h = refl
+
+  all_true : (n : ℕ) → ((k : ℕ) → k < n → are_sound (part_at stores tables k) ≡ true) → all_sound stores tables n ≡ true
+  unfolding all_sound
+  all_true zero h = refl
+  all_true (suc n) h = and_true _ _ (all_true n (λ k l. h k (omega arith))) (h n (omega arith))
+
+  number_at : (n k : ℕ) → k < n → get_or (range_with_len 0 n) k 0 ≡ k
+  number_at n k l = omega (arith, get_or-range_with_len 0 n k 0 l)
+
+  -- what `all` over the numbers of the first n answers
+  pub all_answered :
+      (n : ℕ) (b : Bool)
+      → MatchBool b (AllWithin (λ k. are_sound (part_at stores tables k) ≡ true) (range_with_len 0 n) 0 (length (range_with_len 0 n)))
+      ((k : ℕ) × (k < length (range_with_len 0 n)) × HoldsAt (λ k. are_sound (part_at stores tables k) ≡ false) (range_with_len 0 n) k)
+      → b ≡ all_sound stores tables n
+  all_answered n true h =
+      let long = length-range_with_len 0 n in
+      sym (all_true n (λ k l. ap (λ (j : ℕ). are_sound (part_at stores tables j)) (sym (number_at n k l)) ∙ h k 0 (omega arith) (omega arith)))
+  all_answered n false h =
+      let long = length-range_with_len 0 n in
+      let l : h.0 < n = omega (arith, h.1, long) in
+      not_all n h.0 l (ap (λ (j : ℕ). are_sound (part_at stores tables j)) (sym (number_at n h.0 l)) ∙ h.2 0)
 
   pub can_ask_once : (n k : ℕ) → CanAskEach stores tables n → k < n → CanAskOnce stores tables k
   can_ask_once n k c l = record { there = has_store n k c.there l; sound = sound_at n k c.sound l }

@@ -47,38 +47,43 @@ struct Stores<'a> {
 }
 
 impl<'a> Stores<'a> {
+    // The store with the number k.
+    fn store(self, k: usize) -> &'a [i32]
+        requires { HasStore self.stores.now self.tables.now k }
+        ensures { result.now ≡ (part_at self.entry.stores.now self.entry.tables.now k).store }
+    {
+        let start = STORE_WORDS * k;
+        &self.stores[start..start + STORE_WORDS]
+    }
+
+    // Its table.
+    fn table(self, k: usize) -> &'a [i16]
+        requires { HasStore self.stores.now self.tables.now k }
+        ensures { result.now ≡ (part_at self.entry.stores.now self.entry.tables.now k).table }
+    {
+        let start = TABLE_WORDS * k;
+        &self.tables[start..start + TABLE_WORDS]
+    }
+
     fn is_sound_at(self, k: usize) -> bool
         requires { HasStore self.stores.now self.tables.now k }
         ensures { result ≡ are_sound (part_at self.entry.stores.now self.entry.tables.now k) }
     {
-        let a = STORE_WORDS * k;
-        let b = a + STORE_WORDS;
-        let c = TABLE_WORDS * k;
-        let d = c + TABLE_WORDS;
-        records::soundness::is_sound(&self.stores[a..b], &self.tables[c..d])
+        records::soundness::is_sound(self.store(k), self.table(k))
     }
 
     fn all_sound(self) -> bool
         requires { HasStores self.stores.now self.tables.now self.count }
         ensures { result ≡ all_sound self.entry.stores.now self.entry.tables.now self.entry.count }
     {
-        for k in 0..self.count {
-            if !self.is_sound_at(k) {
-                return false;
-            }
-        }
-        true
+        (0..self.count).all(|k| self.is_sound_at(k))
     }
 
     fn ask_once(self, list: &mut [u16], k: usize, ask: Ask) -> usize
         requires { CanAskOnce self.stores.now self.tables.now k }
         ensures { Leaves (asked_once (part_at self.entry.stores.now self.entry.tables.now k) ask list.old) result list.new }
     {
-        let a = STORE_WORDS * k;
-        let b = a + STORE_WORDS;
-        let c = TABLE_WORDS * k;
-        let d = c + TABLE_WORDS;
-        accepted_in(engine::sound::ask(&self.stores[a..b], &self.tables[c..d], list, ask))
+        accepted_in(engine::sound::ask(self.store(k), self.table(k), list, ask))
     }
 
     fn ask_each(self, list: &mut [u16], ask: Ask) -> usize

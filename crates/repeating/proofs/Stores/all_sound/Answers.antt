@@ -1,17 +1,14 @@
--- one that is not sound decides; else each more is
-use Rattle.std.proofs.Common.{◌∙◌, ◌&&◌, sym, ap₂, refl, arith}
-use Rattle.repeating.specs.Turns.{all_sound}
-use Rattle.repeating.proofs.TurnsLaws.{not_all, sound_next}
+-- `all` answers as the definition
+use Rattle.std.proofs.Common.{◌≡◌, true, false, refl, arith, rules}
+use Rattle.std.proofs.lemmas.Iterator.{cases_from_all, YieldsList-from_range}
+use Rattle.records.specs.Words.{are_sound}
+use Rattle.repeating.specs.Turns.{part_at}
+use Rattle.repeating.proofs.TurnsLaws.{all_answered}
 use Rattle.repeating.proofs.Stores.all_sound.Goals as goal
 
-pub loop-k-init : goal.loop-k-init
-unfolding all_sound
-loop-k-init c = refl
-
-pub returns-then-not-is_sound_at : goal.returns-then-not-is_sound_at
-returns-then-not-is_sound_at c =
-    not_all c.args.self.stores.now c.args.self.tables.now c.args.self.count c.loop-k.k (omega arith) (sym c.is_sound_at.ensures ∙ c.if-not-is_sound_at.true)
-
-pub loop-k-preserved : goal.loop-k-preserved
-loop-k-preserved c =
-    sound_next c.args.self.stores.now c.args.self.tables.now c.loop-k.k ∙ ap₂ ◌&&◌ c.loop-k.invariant (sym c.is_sound_at.ensures ∙ c.if-not-is_sound_at.false)
+pub returns : goal.returns
+returns c =
+    let s = c.args.self in
+    all_answered s.stores.now s.tables.now s.count c.all.result
+    (cases_from_all _ _ c.all.result (λ k. are_sound (part_at s.stores.now s.tables.now k) ≡ true) (λ k. are_sound (part_at s.stores.now s.tables.now k) ≡ false)
+    c.all.ensures.ran (YieldsList-from_range 0 s.count s.count refl (omega arith)) (λ k q h. search rules) (λ k q h. search rules))
