@@ -14,21 +14,14 @@ use std::ops::Range;
 const SLOT_KEYS: i32 = CELLS as i32;
 
 // How many records stand before the first whose key is at least the given one: binary search.
+#[tactic(auto, using(records::proofs::PlacesLaws::store_room))]
 fn first_from(store: &[i32], key: i32) -> usize
     requires { IsStore store.now }
     ensures { result ≡ first_from key (records_of store.now) }
 {
-    let mut low = 0;
-    let mut high = held_of(store);
-    while low < high {
-        let mid = low + (high - low) / 2;
-        if store[RECORD_WORDS * mid + RECORD_WORDS] < key {
-            low = mid + 1;
-        } else {
-            high = mid;
-        }
-    }
-    low
+    let end = RECORD_WORDS * held_of(store) + RECORD_WORDS;
+    let (records, _) = store[RECORD_WORDS..end].as_chunks::<RECORD_WORDS>();
+    records.partition_point(|words| words[0] < key)
 }
 
 // The records of a slot: from the first with one of its keys up to the first past them.
