@@ -1,4 +1,3 @@
-pub mod BitsLaws
 pub mod RecordsLaws
 pub mod PlacesLaws
 pub mod SoundnessRangeLaws

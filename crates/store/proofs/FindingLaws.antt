@@ -3,7 +3,7 @@
 use mathlib.Core.Path.{◌≡◌, refl, sym, ap, ◌∙◌}
 use mathlib.Core.Bool.{Bool, true, false, cond, not}
 use mathlib.Core.List.{List, [], ◌∷◌, Memᴰ}
-use Prim.Native.Nat.{ℕ, zero, suc, ◌+◌, ◌-◌, ◌*◌, ◌/◌, ◌≤◌, ◌<◌, ◌^◌}
+use Prim.Native.Nat.{ℕ, zero, suc, ◌+◌, ◌-◌, ◌*◌, ◌/◌, ◌≤◌, ◌<◌}
 use native.Mathlib.Omega.{arith}
 use lib.IntN.{ℤ}
 use mathlib.Core.Logic.{dite}
@@ -12,17 +12,8 @@ use lib.ListN.{length, get_or, take, drop, length-drop}
 use lib.Seq.{drop-nil, drop-cons, length-take-le}
 use Rattle.std.specs.Simd.{first_chunks}
 use Rattle.std.specs.List.Sorted.{IsPartitionedBy, IsPartitionPoint}
-use lib.Dec.{eqb}
-use lib.Signed.{mag}
-use mir.Syntax.{w32}
-use mir.Val.{hbits, to_z, of_z}
-use borrow.Author.Tests.{ltb-true, ltb-false, eqb-true}
-use Rattle.std.proofs.Common.{eq-eqb}
+use borrow.Author.Tests.{ltb-true, ltb-false}
 use Rattle.std.specs.List.{position, position_or_len}
-use Rattle.ints.specs.Whole.{eq_z}
-use Rattle.ints.proofs.Truth.{same_truth}
-use Rattle.ints.proofs.Same.{is_same, same_is}
-use Rattle.ints.proofs.Machine.{held}
 use Rattle.std.specs.Prelude.{Some, None, nat_lt}
 use Rattle.ints.proofs.Parts.{true_false}
 use Rattle.records.specs.Records.{record_words, record_from, held_of, read_records, records_of}
@@ -53,13 +44,6 @@ part_records s n h en =
     ∙ ap (λ (j : ℕ). read_records j (drop record_words s)) en
 
 -- ---- the first record of an id
-
--- two numbers are the same where their bits are
-pub same_bits : (a b : ℤ) → mag a < 2 ^ hbits w32 → mag b < 2 ^ hbits w32 → eqb (of_z w32 a) (of_z w32 b) ≡ eq_z a b
-same_bits a b ha hb =
-    same_truth _ _
-    (λ t. is_same a b (sym (held w32 a ha) ∙ ap (to_z w32) (eqb-true (of_z w32 a) (of_z w32 b) t) ∙ held w32 b hb))
-    (λ t. eq-eqb (of_z w32 a) (of_z w32 b) (ap (of_z w32) (same_is a b t)))
 
 module _ (id : ℤ) where
   -- whether the record in seven words has it

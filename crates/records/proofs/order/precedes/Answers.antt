@@ -1,7 +1,7 @@
 -- Its three tests are those of the definition.
 use Rattle.std.proofs.Common.{rules, w32, FitsSigned}
 use Rattle.std.proofs.lemmas.Int.{to_z-of_z}
-use Rattle.records.proofs.BitsLaws.{same_bits}
+use Rattle.ints.proofs.Library.{bits_equal}
 use Rattle.records.specs.Order.{precedes}
 use Rattle.records.proofs.order.precedes.Goals as goal
 
@@ -12,4 +12,4 @@ returns c =
     let l : FitsSigned w32 c.args.b.key = search rules in
     let i : FitsSigned w32 c.args.a.report.id = search rules in
     let j : FitsSigned w32 c.args.b.report.id = search rules in
-    simp (to_z-of_z, same_bits)
+    simp (to_z-of_z, bits_equal k l)

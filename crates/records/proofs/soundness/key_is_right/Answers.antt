@@ -8,7 +8,7 @@ use Rattle.rows.specs.Phases.{phase_of}
 use Rattle.records.specs.Order.{key_in, phase_of_key}
 use Rattle.records.specs.Soundness.{key_is_right}
 use Rattle.records.specs.declared.Record.{Record}
-use Rattle.records.proofs.BitsLaws.{same_bits}
+use Rattle.ints.proofs.Library.{bits_equal}
 use Rattle.records.proofs.SoundnessRangeLaws.{last_phase_lem}
 use Rattle.records.proofs.OrderKeysLaws.{phase_of_key-small}
 use Rattle.records.proofs.soundness.key_is_right.Goals as goal
@@ -35,7 +35,7 @@ returns-then-phase_at-p c =
     let s : FitsSigned w32 c.args.r.report.t = search rules in
     let p = c.phase_of_key-p.ensures ∙ ap₂ phase_of_key (simp to_z-of_z at c.phase_at.ensures) (to_z-of_z w32 c.args.r.key k) in
     let j = judged c.args.time c.args.r c.phase_of_key-p.result c.phase_at-2.result p (simp to_z-of_z at c.phase_at-2.ensures) in
-    same_bits c.args.r.key c.key_in.result k (search rules) ∙ ap (eq_z c.args.r.key) c.key_in.ensures ∙ (simp (le-leb c.phase_at-2.result c.phase_of_key-p.result c.if-phase_at-p.true) at j)
+    bits_equal {b = c.key_in.result} k (search rules) ∙ ap (eq_z c.args.r.key) c.key_in.ensures ∙ (simp (le-leb c.phase_at-2.result c.phase_of_key-p.result c.if-phase_at-p.true) at j)
 
 pub returns-else-phase_at-p : goal.returns-else-phase_at-p
 returns-else-phase_at-p c =
