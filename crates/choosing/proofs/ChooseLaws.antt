@@ -3,7 +3,7 @@
 use mathlib.Core.Path.{◌≡◌, refl, sym, ap, ◌∙◌, subst}
 use mathlib.Core.Bool.{Bool, true, false}
 use mathlib.Core.List.{List, map}
-use Prim.Native.Nat.{ℕ, suc, ◌+◌, ◌-◌, ◌≤◌, ◌<◌}
+use Prim.Native.Nat.{ℕ, zero, suc, ◌+◌, ◌-◌, ◌≤◌, ◌<◌}
 use native.Mathlib.Numerals.{add-one}
 use native.Mathlib.Omega.{arith}
 use lib.IntN.{ℤ}
@@ -23,7 +23,7 @@ use Rattle.choosing.specs.declared.slot.SlotRows.{SlotRows}
 use Rattle.choosing.proofs.BoundsLaws.{slot_valid}
 use Rattle.methods.specs.Claims.{ValidRows}
 use Rattle.choosing.specs.Choose.{ChosenBy, found_of, FoundIs, SearchIs}
-use Rattle.std.specs.Prelude.{Option, None, Some}
+use Rattle.std.specs.Prelude.{Option, None, Some, min}
 use Rattle.choosing.specs.Mark.{no_marks, Marked}
 use Rattle.choosing.specs.Reached.{places, nonempty, meeting}
 use Rattle.methods.specs.declared.Block.{Block}
@@ -135,3 +135,13 @@ module _ {table : List ℤ} {slot : ℕ} {aim : Aim} {before : List ℕ} (clear 
       → ChosenBy 3 table slot aim marks 0
   unfolding choice no_marks
   optimal_chosen valid fair m = record { marks_are = rw clear at m.marks_are ∙ optimal_marks (rows_of_slot table slot) valid aim fair; rounds_are = refl }
+
+-- ---- the method of a number
+
+-- it chooses what the number does, whatever the number
+pub method_chooses : (n : ℕ) (rows : Rows) (aim : Aim) → choice (min n 3) rows aim ≡ choice n rows aim
+unfolding choice
+method_chooses zero rows aim = refl
+method_chooses (suc zero) rows aim = refl
+method_chooses (suc (suc zero)) rows aim = refl
+method_chooses (suc (suc (suc n))) rows aim = let e : min (suc (suc (suc n))) 3 ≡ 3 = omega arith in rw e refl

@@ -104,7 +104,7 @@ fn mark_found(curve: &CurveNumbers, found: Option<Block>, marks: &mut [u8])
     }
 }
 
-// The method of a number; every number from 3 on is the optimal method.
+// The method of a number; every number from 3 on is the optimal method. It chooses what the number does: `method_chooses` (proofs/ChooseLaws.antt).
 pub fn method_of(number: usize) -> Method
     ensures { number_of result ≡ min number 3 }
 {

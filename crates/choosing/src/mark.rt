@@ -1,4 +1,5 @@
-// Marks by curve number: 1 at a chosen cell, 0 at any other.
+// Marks by curve number: 1 at a chosen cell, 0 at any other. Numbers and no Booleans, since the definitions of marks (`with_cells`, `marks_of`) and what is
+// proved of them have them so.
 ghost use Rattle.std.specs.Prelude.{◌≡◌, [], ◌∷◌, length};
 ghost use Rattle.grid.specs.Units.{cells};
 ghost use Rattle.methods.specs.Reach.{columns_of, cells_of_row, cells_of};

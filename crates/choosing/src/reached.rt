@@ -34,7 +34,8 @@ fn has_row(rows: &SlotRows, place: usize) -> bool
     !rows.row_at(place).is_empty()
 }
 
-// The places whose rows are nonempty, over the front of `full`, and how many they are.
+// The places whose rows are nonempty, over the front of `full`, and how many they are. Here and below a list is an array and a number, since the project has
+// no heap, and each place is written whether it counts or not.
 fn list_nonempty(rows: &SlotRows, full: &mut [u16]) -> usize
     requires { length full.old ≡ cells }
     ensures { ListsNonempty (rows_in rows.now) full.new result }

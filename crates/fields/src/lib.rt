@@ -1,5 +1,5 @@
 // One number of a line, right-justified in its columns: document 01, "Lines". Read, written, and several written one after the other,
-// these in any number of columns too.
+// these in any number of columns too. Bytes are written into memory that is lent, and no String is made: the project has no heap.
 #![tactic(auto)]
 
 ghost use Rattle.std.specs.Prelude.{◌≡◌, ◌≤◌, pos};

@@ -25,8 +25,8 @@ fn lead_after(lead: u8, left: usize) -> u8
     if left == 0 { b' ' } else { lead }
 }
 
-// The columns of n from a place on, written from the right to the left, with `lead` before its digits. It is lent all the bytes, and no slice of its
-// columns alone, so that the contract says of all of them what the callers want to know.
+// The columns of n from a place on, written from the right to the left, with `lead` before its digits. It is lent all the bytes and a
+// place: with a slice of its columns alone each of its callers would have to put the slice back into the bytes by itself, which is no plainer.
 pub fn write_columns(out: &mut [u8], at: usize, columns: usize, lead: u8, n: usize)
     requires { NumberRoom at columns out.old }
     ensures { out.new ≡ put out.old at (number_in columns lead n) }

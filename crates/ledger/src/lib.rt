@@ -41,7 +41,8 @@ impl Change {
     }
 }
 
-// An ask: the method by which cells are chosen, and the query.
+// An ask: the method by which cells are chosen, and the query. The method is any number that a caller gives: one outside 0 to 3 is refused by its check, after
+// those of the time, so it becomes a `Method` only behind them.
 #[derive(Clone, Copy)]
 pub struct Ask {
     pub method: i32,
@@ -93,6 +94,7 @@ pub enum Call {
     Ask(Ask),
 }
 
+// No Result of two kinds of acceptance and a refusal: the theorems over every list of calls speak of these three, and one enum says them plainly.
 #[derive(Clone, Copy)]
 pub enum Answer {
     // An accepted open, clock, add, report or drop: the floats held.

@@ -13,7 +13,7 @@ pub const ANSWER_BYTES: usize = 1
     + 1;
 
 // The index, and the first bytes of the line that has not ended yet: all that is kept of an input. Whoever has these makes the value of them: its fields
-// are public.
+// are public. The line has a fixed place and the number of bytes held in it, since the project has no heap.
 #[derive(Drop)]
 pub struct Buffers {
     pub index: OpenIndex,

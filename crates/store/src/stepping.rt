@@ -93,7 +93,8 @@ fn keep_live(store: &mut [i32], step: Step, dead: &mut [i32]) -> usize
     k
 }
 
-// Takes the records that move out of the store, and writes them to `dead`, placed in the phase of the time. Gives back how many.
+// Takes the records that move out of the store, and writes them to `dead`, placed in the phase of the time. Gives back how many: `dead` has room for all of
+// them, since the project has no heap.
 #[tactic(auto, using(records::proofs::PlacesLaws::store_room))]
 fn take_dead(store: &mut [i32], step: Step, dead: &mut [i32]) -> usize
     requires { TakeAsked store.old step dead.old }

@@ -49,7 +49,7 @@ fn words_of(text: &[u8]) -> usize
     }
 }
 
-// An error's text in front of some bytes; how many it has.
+// An error's text in front of some bytes; how many it has. No String: the project has no heap.
 fn text_of(error: &Error, text: &mut [u8; TEXT_BYTES]) -> usize
     ensures { result ≤ 128 }
 {
