@@ -6,6 +6,7 @@ pub mod inserting;
 pub mod opening;
 pub mod removing;
 pub mod sorting;
+pub mod step;
 pub mod stepping;
 pub mod widening;
 pub mod writing;
