@@ -16,11 +16,10 @@ use borrow.Author.Tests.{ltb-true, ltb-false}
 use Rattle.std.specs.List.{position, position_or_len}
 use Rattle.std.specs.Prelude.{Some, None, nat_lt}
 use Rattle.ints.proofs.Parts.{true_false}
-use Rattle.records.specs.Records.{record_words, record_from, held_of, read_records, records_of}
+use Rattle.records.specs.Records.{record_words, record_from, held_of, read_records, records_of, all_records}
 use Rattle.records.specs.Order.{precedes, is_sorted}
 use Rattle.records.specs.Places.{first_of}
 use Rattle.store.specs.Finding.{place_of, has_that, index_of, found_at}
-use Rattle.store.specs.Sorting.{all_of}
 use Rattle.store.proofs.SortingListsLaws.{all_count, first_chunk, chunk_listed}
 use Rattle.records.specs.declared.Record.{Record}
 use Rattle.records.proofs.RecordsLaws.{read_length}
@@ -33,12 +32,12 @@ pub part_records :
     (s : List ℤ) (n : ℕ)
     → record_words * n + record_words ≤ length s
     → n ≡ held_of s
-    → all_of (take (record_words * n + record_words - record_words) (drop record_words s)) ≡ records_of s
+    → all_records (take (record_words * n + record_words - record_words) (drop record_words s)) ≡ records_of s
 unfolding records_of
 part_records s n h en =
     let e : record_words * n + record_words - record_words ≡ record_words * n = omega arith in
     let behind : record_words * n ≤ length (drop record_words s) = simp length-drop (omega arith) in
-    ap (λ (j : ℕ). all_of (take j (drop record_words s))) e
+    ap (λ (j : ℕ). all_records (take j (drop record_words s))) e
     ∙ all_count n (take (record_words * n) (drop record_words s)) (length-take-le (record_words * n) (drop record_words s) behind)
     ∙ read_front n (drop record_words s) behind
     ∙ ap (λ (j : ℕ). read_records j (drop record_words s)) en
@@ -71,7 +70,7 @@ module _ (id : ℤ) where
       (λ i. step (has_that id (first_chunk w i)) (chunk_place k (drop record_words w) i))
       ∙ step_is here (first_of (has_that id) (read_records k (drop record_words w)))
 
-  pub index_found : (w : List ℤ) (chunks : List (List ℤ)) → chunks ≡ first_chunks record_words (length w / record_words) w → position is_of chunks ≡ found_at id (all_of w)
+  pub index_found : (w : List ℤ) (chunks : List (List ℤ)) → chunks ≡ first_chunks record_words (length w / record_words) w → position is_of chunks ≡ found_at id (all_records w)
   index_found w chunks e =
       let k = length w / record_words in
       let count = chunk_count k w ∙ sym (read_length k w) in
@@ -135,14 +134,14 @@ is_behind r words = not (precedes r (record_from words 0))
 
 module _
     (r : Record) (w : List ℤ) (chunks : List (List ℤ)) (e : chunks ≡ first_chunks record_words (length w / record_words) w)
-    (l : length chunks ≡ length w / record_words) (o : is_sorted (all_of w) ≡ true) where
+    (l : length chunks ≡ length w / record_words) (o : is_sorted (all_records w) ≡ true) where
   abbrev none : Record
   none = record_from [] 0
 
   abbrev here : ℕ → Record
-  here j = get_or (all_of w) j none
+  here j = get_or (all_records w) j none
 
-  long : length (all_of w) ≡ length chunks
+  long : length (all_records w) ≡ length chunks
   long = read_length (length w / record_words) w ∙ sym l
 
   tested : (j : ℕ) (d : List ℤ) → j < length chunks → is_behind r (get_or chunks j d) ≡ not (precedes r (here j))
@@ -150,17 +149,17 @@ module _
       ap (λ (c : List (List ℤ)). is_behind r (get_or c j d)) e
       ∙ ap (λ (a : Record). not (precedes r a)) (chunk_listed (length w / record_words) j w d none (omega arith))
 
-  not_behind : (j : ℕ) → j < length chunks → precedes r (here j) ≡ true → place_of r (all_of w) ≤ j
-  not_behind j h t = let k = long in place_below r j (here j) (all_of w) (at_index j none (all_of w) (omega arith)) t
+  not_behind : (j : ℕ) → j < length chunks → precedes r (here j) ≡ true → place_of r (all_records w) ≤ j
+  not_behind j h t = let k = long in place_below r j (here j) (all_records w) (at_index j none (all_records w) (omega arith)) t
 
-  is_after : (j : ℕ) → j < length chunks → precedes r (here j) ≡ false → j < place_of r (all_of w)
-  is_after j h t = let k = long in place_above r j (here j) (all_of w) (at_index j none (all_of w) (omega arith)) o t
+  is_after : (j : ℕ) → j < length chunks → precedes r (here j) ≡ false → j < place_of r (all_records w)
+  is_after j h t = let k = long in place_above r j (here j) (all_records w) (at_index j none (all_records w) (omega arith)) o t
 
   -- those that r comes behind stand before the others
   pub parted : IsPartitionedBy (is_behind r) chunks
   parted i j d h k t = go (precedes r (here i)) refl
     where
-      behind : j < place_of r (all_of w)
+      behind : j < place_of r (all_records w)
       behind = is_after j k (not_true (precedes r (here j)) (sym (tested j d k) ∙ t))
 
       go : (b : Bool) → precedes r (here i) ≡ b → is_behind r (get_or chunks i d) ≡ true
@@ -168,17 +167,17 @@ module _
       go false f = tested i d (omega arith) ∙ ap not f
 
   -- so the place is where they end
-  pub place_found : (i : ℕ) → i ≤ length chunks → IsPartitionPoint (λ c. is_behind r c ≡ true) (λ c. is_behind r c ≡ false) chunks i → i ≡ place_of r (all_of w)
+  pub place_found : (i : ℕ) → i ≤ length chunks → IsPartitionPoint (λ c. is_behind r c ≡ true) (λ c. is_behind r c ≡ false) chunks i → i ≡ place_of r (all_records w)
   place_found i h p = omega (arith, low i refl, high)
     where
-      low : (j : ℕ) → j ≡ i → i ≤ place_of r (all_of w)
+      low : (j : ℕ) → j ≡ i → i ≤ place_of r (all_records w)
       low zero f = omega arith
       low (suc j) f = omega (arith, is_after j (omega arith) (not_true (precedes r (here j)) (sym (tested j [] (omega arith)) ∙ p.0 j [] (omega arith) (omega arith))))
 
-      high : place_of r (all_of w) ≤ i
+      high : place_of r (all_records w) ≤ i
       high = dite (dec_lt i (length chunks))
           (λ k. not_behind i k (not_false (precedes r (here i)) (sym (tested i [] k) ∙ p.1 i [] (omega arith) k)))
-          (λ k. omega (arith, long, first_within (precedes r) (all_of w)))
+          (λ k. omega (arith, long, first_within (precedes r) (all_records w)))
 
 -- ---- the number found, if there is one
 

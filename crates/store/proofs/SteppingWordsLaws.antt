@@ -14,10 +14,9 @@ use Rattle.ints.proofs.Lists.{map-append}
 use Rattle.grid.specs.Units.{capacity}
 use Rattle.rows.specs.Phases.{phase_of, last_phase}
 use Rattle.rows.specs.Table.{table_words}
-use Rattle.records.specs.Records.{record_words, record_from, now_of, held_of, read_records, records_of, words_of, words_of_all, store_of, float_words}
+use Rattle.records.specs.Records.{record_words, record_from, now_of, held_of, read_records, records_of, words_of, words_of_all, store_of, float_words, all_records}
 use Rattle.records.specs.Soundness.{is_ranged, all_ranged, IsStore}
 use Rattle.store.specs.Inserting.{inserted_all}
-use Rattle.store.specs.Sorting.{all_of}
 use Rattle.store.specs.Widening.{widened_by_all}
 use Rattle.store.specs.Stepping.{placed_in, lives_on, moves, replaced, moved_records}
 use Rattle.records.specs.Places.{HasWords}
@@ -163,7 +162,7 @@ unfolding inserted_all
 inserted_none rs = refl
 
 -- nothing to place
-pub none_stored : (s dead : List ℤ) → HasWords s → length dead ≡ 0 → s ≡ store_of (now_of s) (inserted_all (all_of dead) (records_of s))
+pub none_stored : (s dead : List ℤ) → HasWords s → length dead ≡ 0 → s ≡ store_of (now_of s) (inserted_all (all_records dead) (records_of s))
 none_stored s dead q e =
     q.words ∙ ap (store_of (now_of s)) (sym (ap (λ (l : List Record). inserted_all l (records_of s)) (all_none dead e) ∙ inserted_none (records_of s)))
 
@@ -189,12 +188,12 @@ module _ (s₀ s dead : List ℤ) (now time : ℤ) (m : ℕ) (es : s ≡ store_o
         widen_all = record { table_long = l; whole = omega arith; ranged = ap all_ranged (read_part m dead k.inside) ∙ k.ranged };
       }
 
-  pub step_stored : (s' : List ℤ) → s' ≡ store_of (now_of s) (inserted_all (all_of part) (records_of s)) → s' ≡ store_of (now_of s₀) (moved_records now time (records_of s₀))
+  pub step_stored : (s' : List ℤ) → s' ≡ store_of (now_of s) (inserted_all (all_records part) (records_of s)) → s' ≡ store_of (now_of s₀) (moved_records now time (records_of s₀))
   unfolding left moved_records
   step_stored s' e =
       let put = read_part m dead k.inside ∙ k.dead_are in
       e ∙ (λ i. store_of (now_is (now_of s₀) left s es i) (inserted_all (put i) (records_are (now_of s₀) left s es i)))
 
 pub step_widened : (table table' dead : List ℤ) (to : ℕ) (moving : Record → Bool) (m : ℕ) (rs : List Record) → Taken to moving rs m dead
-    → table' ≡ widened_by_all table (all_of (take (record_words * m) dead)) → table' ≡ widened_by_all table (replaced to moving rs)
+    → table' ≡ widened_by_all table (all_records (take (record_words * m) dead)) → table' ≡ widened_by_all table (replaced to moving rs)
 step_widened table table' dead to moving m rs k e = e ∙ ap (widened_by_all table) (read_part m dead k.inside ∙ k.dead_are)

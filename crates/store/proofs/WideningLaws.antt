@@ -23,12 +23,11 @@ use Rattle.rows.proofs.RowLaws.{joined_comm, joined_assoc, joined_empty_right, w
 use Rattle.rows.proofs.TableLaws.{row_written, row_other, length-with_row}
 use Rattle.records.specs.Order.{key_in, slot_of_key, number_of_key, precedes}
 use Rattle.records.specs.declared.Record.{Record}
-use Rattle.records.specs.Records.{record_words, record_from, read_records}
+use Rattle.records.specs.Records.{record_words, record_from, read_records, all_records}
 use Rattle.records.specs.Soundness.{is_ranged, all_ranged}
 use Rattle.records.proofs.OrderKeysLaws.{slot_of-key_in}
 use Rattle.records.proofs.PlacesLaws.{rest_at}
 use Rattle.store.specs.Inserting.{inserted}
-use Rattle.store.specs.Sorting.{all_of}
 use Rattle.store.specs.Widening.{widened_by, widened_by_all}
 use Rattle.store.specs.Stepping.{placed_in, replaced}
 use Rattle.store.proofs.SortingListsLaws.{no_records, all_none}
@@ -250,5 +249,5 @@ widen_end table₀ dead m table j p h =
     sym (p.table_is ∙ ap (widened_by_all table) none ∙ speeds_none table)
 
 -- nothing to widen
-pub none_widened : (table dead : List ℤ) → length dead ≡ 0 → table ≡ widened_by_all table (all_of dead)
+pub none_widened : (table dead : List ℤ) → length dead ≡ 0 → table ≡ widened_by_all table (all_records dead)
 none_widened table dead e = sym (ap (widened_by_all table) (all_none dead e) ∙ speeds_none table)

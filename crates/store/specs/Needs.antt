@@ -8,10 +8,9 @@ use Rattle.grid.specs.Reports.{is_time, in_range}
 use Rattle.grid.specs.declared.Report.{Report}
 use Rattle.rows.specs.Phases.{last_phase}
 use Rattle.rows.specs.Table.{table_words}
-use Rattle.records.specs.Records.{record_words, held_of, read_records, records_of, words_of_all, float_words}
+use Rattle.records.specs.Records.{record_words, held_of, read_records, records_of, words_of_all, float_words, all_records}
 use Rattle.records.specs.Order.{is_sorted}
 use Rattle.records.specs.Soundness.{is_ranged, all_ranged, IsStore}
-use Rattle.store.specs.Sorting.{all_of}
 use Rattle.store.specs.Stepping.{replaced}
 use Rattle.records.specs.declared.Record.{Record}
 use Rattle.records.specs.Places.{HasWords}
@@ -70,7 +69,7 @@ pub record RemoveAsked (s : List ℤ) (i : ℕ) : Type 0 where
 pub record WidenAllAsked (table dead : List ℤ) : Type 0 where
   pub table_long : length table ≡ table_words
   pub whole : AreRecords dead
-  pub ranged : all_ranged (all_of dead) ≡ true
+  pub ranged : all_ranged (all_records dead) ≡ true
 
 -- ---- sorting.rt: sorting and merging
 

@@ -3,9 +3,8 @@
 ghost use Rattle.std.specs.Prelude.{◌≡◌, ◌-◌};
 ghost use Rattle.ints.specs.Lists.{passing};
 ghost use Rattle.rows.specs.Phases.{phase_of};
-ghost use Rattle.records.specs.Records.{now_of, held_of, records_of, store_of};
+ghost use Rattle.records.specs.Records.{now_of, held_of, records_of, store_of, all_records};
 ghost use Rattle.store.specs.Inserting.{inserted_all};
-ghost use Rattle.store.specs.Sorting.{all_of};
 ghost use Rattle.store.specs.Widening.{widened_by_all};
 ghost use Rattle.store.specs.Stepping.{placed_in, lives_on, moves, replaced, moved_records};
 ghost use Rattle.store.specs.Needs.{ReportAsked, TakeAsked, KeptFirst, Taken, PlaceAsked, StepAsked};
@@ -79,8 +78,8 @@ fn take_dead(store: &mut [i32], step: Step, dead: &mut [i32]) -> usize
 // Puts the records of `dead` into the store, and widens the row of each.
 fn place_dead(store: &mut [i32], table: &mut [i16], dead: &[i32])
     requires { PlaceAsked store.old table.old dead.now }
-    ensures store_after { store.new ≡ store_of (now_of store.old) (inserted_all (all_of dead.now) (records_of store.old)) }
-    ensures table_after { table.new ≡ widened_by_all table.old (all_of dead.now) }
+    ensures store_after { store.new ≡ store_of (now_of store.old) (inserted_all (all_records dead.now) (records_of store.old)) }
+    ensures table_after { table.new ≡ widened_by_all table.old (all_records dead.now) }
 {
     if dead.is_empty() {
         return;

@@ -1,7 +1,7 @@
 // The rows of a table widened by the speeds of records, each in the row of its cell.
+ghost use Rattle.records.specs.Records.{all_records};
 ghost use Rattle.std.specs.Prelude.{◌≡◌};
 ghost use Rattle.records.specs.Needs.{CanFindRow};
-ghost use Rattle.store.specs.Sorting.{all_of};
 ghost use Rattle.store.specs.Widening.{widened_by, widened_by_all};
 ghost use Rattle.store.specs.Needs.{WidenAllAsked};
 
@@ -26,7 +26,7 @@ pub fn widen(table: &mut [i16], r: Record)
 // Widens the row of each of the records of `dead`.
 pub fn widen_all(table: &mut [i16], dead: &[i32])
     requires { WidenAllAsked table.old dead.now }
-    ensures { table.new ≡ widened_by_all table.old (all_of dead.now) }
+    ensures { table.new ≡ widened_by_all table.old (all_records dead.now) }
 {
     let (records, _) = dead.as_chunks::<RECORD_WORDS>();
     for words in records {
