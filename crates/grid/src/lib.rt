@@ -185,7 +185,7 @@ impl Report {
         rect.holds(self.x_at(s), self.y_at(s))
     }
 
-    // Whether it is in a rectangle at some moment from one time to another.
+    // Whether it is in a rectangle at some moment from one time to another. No query: its first time is the later one of a query's and the report's.
     fn is_inside_during(self, rect: Rect, first: i32, last: i32) -> bool
         requires { SmallWindow self rect first last }
         ensures { result ≡ inside_during rect first last self }

@@ -100,6 +100,7 @@ impl Row {
             && (self.least_vy..=self.greatest_vy).contains(&drift.vy)
     }
 
+    // `==`, by the name that its definition has (`same_row`), which the methods' definitions go by.
     pub fn same(self, other: Row) -> bool
         ensures { result ≡ same_row self other }
     {
@@ -150,7 +151,8 @@ impl Row {
         }
     }
 
-    // The row of a slot and a curve number.
+    // The row of a slot and a curve number. They stand apart, here and at each call below: a pass keeps its slot and goes from number to number, and a struct of
+    // the two would be made anew for each.
     pub fn read(table: &[i16], slot: usize, number: usize) -> Row
         requires { HasRow table.now slot number }
         ensures { result ≡ row_at table.now slot number }
