@@ -1,4 +1,3 @@
 pub mod BucketsLaws
 pub mod IdsLaws
 pub mod IdsPutLaws
-pub mod IdsSortLaws
