@@ -14,6 +14,7 @@ use Rattle.ints.specs.Whole.{min_z, max_z}
 use Rattle.rows.specs.Row.{empty_row, joined, bounds_of}
 use Rattle.rows.specs.Table.{row_from, row_place, row_at, slot_rows}
 use Rattle.lanes.specs.Lanes.{lanes, lane_row_count, folded, Folded, lane_row, lane_rows, lane_bounds}
+use Rattle.lanes.specs.declared.bounds.Lanes.{Lanes}
 use Rattle.rows.specs.declared.Row.{Row}
 use Rattle.rows.proofs.RowLaws.{same_numbers, joined_comm, joined_same, joined_across, bounds_append}
 use Rattle.rows.proofs.TableLaws.{row_drop}
@@ -77,18 +78,17 @@ module _ (block least greatest : List ℤ) (whole : length block ≡ lanes) (lea
       (fold_at min_z block least (4 * j + 2) (omega arith) (omega arith))
       (fold_at max_z block greatest (4 * j + 3) (omega arith) (omega arith))
 
--- the bounds of the last n lane rows, and of one more
-abbrev pub last_bounds : List ℤ → List ℤ → ℕ → Row
-last_bounds least greatest n = bounds_of (lane_rows least greatest (lane_row_count - n) n)
+-- the bounds of the lane rows from row j on, and of the one before them too
+abbrev pub bounds_from : List ℤ → List ℤ → ℕ → Row
+bounds_from least greatest j = bounds_of (lane_rows least greatest j (lane_row_count - j))
 
-pub last_more : (least greatest : List ℤ) (n : ℕ) → n < lane_row_count
-    → joined (lane_row least greatest (lane_row_count - 1 - n)) (last_bounds least greatest n) ≡ last_bounds least greatest (n + 1)
+pub row_before : (least greatest : List ℤ) (j : ℕ) → 0 < j → j ≤ lane_row_count
+    → joined (lane_row least greatest (j - 1)) (bounds_from least greatest j) ≡ bounds_from least greatest (j - 1)
 unfolding lane_rows bounds_of
-last_more least greatest n h =
-    let first : lane_row_count - (n + 1) ≡ lane_row_count - 1 - n = omega arith in
-    let next : suc (lane_row_count - 1 - n) ≡ lane_row_count - n = omega arith in
-    let count : n + 1 ≡ suc n = omega arith in
-    rw (first, count, next)
+row_before least greatest j h k =
+    let count : lane_row_count - (j - 1) ≡ suc (lane_row_count - j) = omega arith in
+    let next : suc (j - 1) ≡ j = omega arith in
+    rw (count, next)
 
 pub row_take : (n : ℕ) (table : List ℤ) (k : ℕ) → k + 3 < n → row_from (take n table) k ≡ row_from table k
 row_take n table k h =
@@ -143,10 +143,10 @@ module _ (table : List ℤ) (slot number : ℕ) where
 -- ---- the rows of a slot taken in, block by block
 
 -- lanes that have taken in the rows of a slot before a curve number
-pub record Taken (table : List ℤ) (slot number : ℕ) (least greatest : List ℤ) : Type 0 where
-  pub least_whole : length least ≡ lanes
-  pub greatest_whole : length greatest ≡ lanes
-  pub bounds_so_far : lane_bounds least greatest ≡ bounds_of (slot_rows table slot 0 number)
+pub record Taken (table : List ℤ) (slot number : ℕ) (m : Lanes) : Type 0 where
+  pub least_whole : length m.least ≡ lanes
+  pub greatest_whole : length m.greatest ≡ lanes
+  pub bounds_so_far : lane_bounds m.least m.greatest ≡ bounds_of (slot_rows table slot 0 number)
 
 -- the bounds of one block of rows more
 bounds_of-more : (table : List ℤ) (slot number : ℕ)
@@ -159,17 +159,17 @@ bounds_of-more table slot number =
     joined_comm (bounds_of ys) (bounds_of xs) ∙ sym (ap bounds_of split ∙ bounds_append xs ys)
 
 pub block_taken :
-    (table : List ℤ) (slot number : ℕ) (least greatest least' greatest' : List ℤ)
+    (table : List ℤ) (slot number : ℕ) (m m' : Lanes)
     → length (block_at table slot number) ≡ lanes
-    → Taken table slot number least greatest
-    → Folded (block_at table slot number) least greatest least' greatest'
-    → Taken table slot (number + lane_row_count) least' greatest'
-block_taken table slot number least greatest least' greatest' whole t h =
+    → Taken table slot number m
+    → Folded (block_at table slot number) m.least m.greatest m'.least m'.greatest
+    → Taken table slot (number + lane_row_count) m'
+block_taken table slot number m m' whole t h =
     record {
-      least_whole = ap length h.as_least ∙ length-folded min_z (block_at table slot number) least ∙ t.least_whole;
-      greatest_whole = ap length h.as_greatest ∙ length-folded max_z (block_at table slot number) greatest ∙ t.greatest_whole;
+      least_whole = ap length h.as_least ∙ length-folded min_z (block_at table slot number) m.least ∙ t.least_whole;
+      greatest_whole = ap length h.as_greatest ∙ length-folded max_z (block_at table slot number) m.greatest ∙ t.greatest_whole;
       bounds_so_far =
-          block_folded table slot number least greatest least' greatest' whole t.least_whole t.greatest_whole h
+          block_folded table slot number m.least m.greatest m'.least m'.greatest whole t.least_whole t.greatest_whole h
           ∙ ap (joined (bounds_of (slot_rows table slot number lane_row_count))) t.bounds_so_far
           ∙ bounds_of-more table slot number;
     }

@@ -5,4 +5,4 @@ use Rattle.lanes.proofs.BoundsLaws.{Taken}
 use Rattle.lanes.proofs.bounds.slot_bounds.Given as goal
 
 abbrev pub invariant-loop-block : goal.invariant-loop-block
-invariant-loop-block l = Taken l.table l.slot (lane_row_count * l.block) l.least l.greatest
+invariant-loop-block l = Taken l.table l.slot (lane_row_count * l.block) l.lanes

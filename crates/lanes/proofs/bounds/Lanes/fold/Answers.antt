@@ -6,7 +6,7 @@ use Rattle.ints.specs.Whole.{min_z, max_z}
 use Rattle.ints.proofs.Library.{min-is, max_is}
 use Rattle.lanes.specs.Lanes.{folded}
 use Rattle.lanes.proofs.BoundsLaws.{fold_stored}
-use Rattle.lanes.proofs.bounds.fold_block.Goals as goal
+use Rattle.lanes.proofs.bounds.Lanes.fold.Goals as goal
 
 pub loop-j-init : goal.loop-j-init
 unfolding folded
@@ -17,6 +17,6 @@ loop-j-preserved c =
     let a = c.args in
     let h = c.loop-j in
     record {
-      as_least = fold_stored min_z a.block.now a.least.now h.least h.j _ (omega arith) h.invariant.as_least (grind (arith, to_z-of_z, min-is));
-      as_greatest = fold_stored max_z a.block.now a.greatest.now h.greatest h.j _ (omega arith) h.invariant.as_greatest (grind (arith, to_z-of_z, max_is));
+      as_least = fold_stored min_z a.block.now a.self.now.least h.self.least h.j _ (omega arith) h.invariant.as_least (grind (arith, to_z-of_z, min-is));
+      as_greatest = fold_stored max_z a.block.now a.self.now.greatest h.self.greatest h.j _ (omega arith) h.invariant.as_greatest (grind (arith, to_z-of_z, max_is));
     }
