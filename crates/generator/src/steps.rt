@@ -10,7 +10,7 @@ pub struct Affine {
 }
 
 // The helper that document 01 names for the step: of a product the lower 32 bits stay.
-fn wrapping_product(a: u32, b: u32) -> u32
+pub fn wrapping_product(a: u32, b: u32) -> u32
     ensures { result ≡ a * b % states }
 {
     a.wrapping_mul(b)
