@@ -1,5 +1,5 @@
 // The work of an ask over buffers known to be sound: in each live phase cells are chosen and read, and the readings are summed. The answer is built
-// from that sum.
+// from that sum. Store and table stay two references: crate words says why.
 #![tactic(auto)]
 
 ghost use Rattle.std.specs.Prelude.{◌≡◌, true, pos};

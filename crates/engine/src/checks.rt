@@ -19,7 +19,7 @@ ghost use Rattle.engine.specs.Sound.{CanJudge};
 use grid::{LAST_ID, LAST_POSITION, LAST_TIME, Query, Range, Rect, When};
 use ledger::{Ask, Change, Refusal};
 
-// A corner of a rectangle is compared in 64 bits.
+// A corner of a rectangle is compared in 64 bits. (`as`, since `From` is no constant function.)
 const LAST_CORNER: i64 = LAST_POSITION as i64;
 
 // How far before and after now an ask may lie, in seconds.
@@ -43,6 +43,7 @@ pub fn is_time(t: i32) -> bool
     (0..=LAST_TIME).contains(&t)
 }
 
+// Of a drop, which has an id alone: records judges whole reports (`in_range`).
 fn is_id(id: i32) -> bool
     ensures { result ≡ is_id id }
 {

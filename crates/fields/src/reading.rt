@@ -12,7 +12,7 @@ pub enum Seen {
     Minus,
     // The digit 0 alone.
     Zero,
-    // Whether "-" came first, and the number of the digits, which is not 0.
+    // Whether "-" came first, and the number of the digits, which is not 0: sign and size are read one after the other, and only the whole is a number.
     Digits(bool, usize),
     // No beginning of a number.
     Other,
@@ -85,7 +85,7 @@ pub fn read_field(line: &[u8], at: usize) -> Option<i32>
     Seen::at(line, at).number()
 }
 
-// The same of a number from 0 on, of up to ten digits, which may be greater than a field's.
+// The same of a number from 0 on, of up to ten digits, which may be greater than a field's: each of the two is a line over `Seen::at`, which they have in common.
 pub fn read_unsigned(line: &[u8], at: usize) -> Option<usize>
     requires { at + width ≤ length line.now }
     ensures { result ≡ unsigned_at line.now at }

@@ -17,7 +17,7 @@ fn speed_of(n: u32) -> i32
     requires { n < speeds }
     ensures { result ≡ pos n -ℤ pos speed_limit }
 {
-    n as i32 - Row::LIMIT as i32
+    n as i32 - i32::from(Row::LIMIT)
 }
 
 // Float k, by four draws of a generator, which is left in the state after them.

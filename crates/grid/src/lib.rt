@@ -154,6 +154,7 @@ fn passage_from(s: i64, x: i32, v: i32, t: i32, range: Range) -> Passage
 }
 
 impl Report {
+    // Each axis has its own position and speed, so these are two: a line each over `position_at`, which they have in common.
     pub fn x_at(self, s: i64) -> i64
         requires { SmallReport self s }
         ensures { result ≡ x_at self s }

@@ -22,6 +22,7 @@ pub fn column_of(x: i64) -> usize
     ((x as usize) / CELL_SIZE).min(LAST)
 }
 
+// A row is found as a column is: the document has a name for each.
 pub fn row_of(y: i64) -> usize
     ensures { result ≡ row_of y }
 {

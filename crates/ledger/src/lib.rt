@@ -128,6 +128,7 @@ pub enum Refusal {
 }
 
 impl Refusal {
+    // The documents' number, which C and the lines have.
     pub fn number(self) -> usize
         ensures { result ≡ refusal_number self }
     {

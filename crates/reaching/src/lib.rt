@@ -24,6 +24,7 @@ fn position_before(p: i64, v: i16, d: i64) -> i64
 }
 
 // For both signs of d a speed v leads from p - v * d to p. Below 0 least and greatest are exchanged.
+// The two stand in a row beside those of the other axis: a struct of them would be made for this one call.
 fn expand_range(range: Range, least: i16, greatest: i16, d: i64) -> Range
     requires { SmallAxis range least greatest d }
     ensures { result ≡ expanded_range range least greatest d }

@@ -57,7 +57,7 @@ pub fn now_of(store: &[i32]) -> i64
     i64::from(store[0])
 }
 
-// The floats held.
+// The floats held: none where the number is below 0, as the definition says of every store.
 pub fn held_of(store: &[i32]) -> usize
     requires { 1 < length store.now }
     ensures { result ≡ held_of store.now }

@@ -8,7 +8,7 @@ ghost use Rattle.records.specs.Needs.{CellOfSlot, CanKey};
 use crate::{RECORD_WORDS, Record};
 use grid::{CurveNumbers, Report};
 
-// The slot of a key.
+// The slot of a key. Here and below a key below 0 counts as 0, as the definitions say of every key.
 pub fn slot_of_key(key: i32) -> usize
     ensures { result ≡ slot_of_key key }
 {

@@ -20,6 +20,7 @@ const MARK_BYTES: usize = grid::ID_MARKS / 8;
 // The most floats held, as a word.
 const MOST_HELD: i32 = CAPACITY as i32;
 
+// This and the next are two, since each has the name of its definition in its contract: `is_position`, `is_speed`.
 fn are_positions(x: i32, y: i32) -> bool
     ensures { result ≡ is_position x && is_position y }
 {

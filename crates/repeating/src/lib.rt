@@ -17,7 +17,8 @@ const STORES: usize = 64;
 
 const TURNS: usize = 1000000;
 
-// How many stores and tables there are in so many words: none where the two numbers do not fit each other.
+// How many stores and tables there are in so many words: none where the two numbers do not fit each other, and then C
+// is told that no ask was made.
 fn stores_in(store_words: usize, table_words: usize) -> usize
     ensures { result ≡ stores_in store_words table_words }
 {

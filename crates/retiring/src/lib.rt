@@ -15,7 +15,7 @@ use records::{RECORD_WORDS, Record, held_of};
 use store::finding::index_of;
 use store::writing::{keep_first, write_record};
 
-// How long a float may send nothing, in 64 bits.
+// How long a float may send nothing, in 64 bits. (`as`, since `From` is no constant function.)
 const SILENCE: i64 = grid::SILENCE as i64;
 
 // Where the time of the first record's report stands in a store.
@@ -41,7 +41,8 @@ pub fn left_at(store: &[i32], time: i32) -> usize
     left
 }
 
-// Whether the float of an id is held and stays when the clock steps to a time.
+// Whether the float of an id is held and stays when the clock steps to a time. A `match`: with `is_some_and` the goal `returns` stays open, since in a closure the
+// range of the word that it reads is not known.
 #[tactic(auto, using(records::proofs::PlacesLaws::store_room))]
 pub fn has_left(store: &[i32], id: i32, time: i32) -> bool
     requires { HasAsked store.now }
