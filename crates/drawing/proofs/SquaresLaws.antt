@@ -26,9 +26,6 @@ module _ (square : Square) where
   four_parts h = ap cell_count (next_order h) ∙ four_quarters (square.order - 1)
 
   module _ (part : ℕ) (corner : Cell) where
-    pub quarter_lower : Cuts square part corner → (quarter_of square part corner).order < square.order
-    quarter_lower cuts = omega (arith, cuts.more)
-
     pub quarter_fits : Cuts square part corner → Fits (quarter_of square part corner)
     quarter_fits cuts =
         let f = cuts.fits in
@@ -41,3 +38,15 @@ module _ (square : Square) where
           rows = omega (arith, f.rows, part_within corner.row 2 s cuts.upper_of);
           numbers = omega (arith, f.numbers, part_within part 4 (s * s) cuts.part_of);
         }
+
+-- which are of a lower order and lie on the grid
+pub quarter_lower :
+    (square : Square) {quarter : Square} (part : ℕ) (corner : Cell) {t : ℕ}
+    → square.order ≡ t
+    → quarter ≡ quarter_of square part corner
+    → ((square.order ≡ 0) → ⊥)
+    → quarter.order < t
+quarter_lower square part corner at is more = rw is (omega arith)
+
+pub quarter_on_grid : (square : Square) {quarter : Square} (part : ℕ) (corner : Cell) → quarter ≡ quarter_of square part corner → Cuts square part corner → Fits quarter
+quarter_on_grid square part corner is cuts = rw is (quarter_fits square part corner cuts)
