@@ -1,21 +1,22 @@
-// One line answered: its call read, made on the index and its answer written.
+// One line answered: its call read, made on the index and its answer written. Store and table are known to be at a point of a list of calls, so
+// they are sound and no call tests them.
 #![tactic(auto)]
 
 ghost use Rattle.std.specs.Prelude.{◌≡◌, ◌≤◌, length, pos};
 ghost use Rattle.ledger.specs.Machine.{opened};
 ghost use Rattle.history.specs.Points.{Point};
+ghost use Rattle.records.specs.Words.{words};
 ghost use Rattle.lines.specs.declared.Line.TheVariants as Lines;
 ghost use Rattle.lines.specs.Lines.{letter_of};
 ghost use Rattle.lines.specs.Reading.{read_line};
-ghost use Rattle.answering.specs.Answering.{answer_bytes, longest_answer, ids_told, AtPoint, Answers, AnswersLine};
+ghost use Rattle.answering.specs.Answering.{answer_bytes, longest_answer, ids_told, AtPoint, CanAnswer, CanTell, Answers, AnswersLine};
 
 use ledger::{Answer, Call};
 use lines::Line;
 use records::{CAPACITY, STORE_WORDS};
 use rows::TABLE_WORDS;
 
-// An index that has been opened, and the list to which an ask writes its ids. It is at a point of a list of calls, so it is sound and no call tests it.
-// Whoever has buffers at a point makes the value of them: its fields are public.
+// An index that has been opened, and the list to which an ask writes its ids, for one who owns them: `answer_line` beside it takes them lent.
 #[derive(Drop)]
 pub struct OpenIndex {
     pub store: [i32; STORE_WORDS],
@@ -35,6 +36,66 @@ fn ids_told(answer: Answer) -> usize
     }
 }
 
+fn answer_call(
+    store: &mut [i32],
+    table: &mut [i16],
+    list: &mut [u16],
+    letter: u8,
+    call: Call,
+    out: &mut [u8],
+) -> usize
+    requires { CanTell (Lines.Call call) letter store.old table.old list.old out.old }
+    ensures { Answers (Lines.Call call) (words store.old table.old) (words store.new table.new) out.old out.new result }
+{
+    let answer = engine::sound::call(store, table, list, call);
+    let n = ids_told(answer);
+    answers::write_answer(letter, answer, &list[..n], out)
+}
+
+fn answer_open(store: &mut [i32], table: &mut [i16], t: i32, out: &mut [u8]) -> usize
+    requires at_point { ∥ AtPoint store.old table.old ∥₁ }
+    requires room { longest_answer ≤ length out.old }
+    ensures { Answers (Lines.Open t) (words store.old table.old) (words store.new table.new) out.old out.new result }
+{
+    let answer = engine::open(store, table, t);
+    answers::write_answer(b'O', answer, &[], out)
+}
+
+// A line answered, without a newline: a call's answer has the letter of its line.
+fn answer_said(
+    store: &mut [i32],
+    table: &mut [i16],
+    list: &mut [u16],
+    line: &[u8],
+    out: &mut [u8],
+) -> usize
+    requires { CanAnswer longest_answer store.old table.old list.old out.old }
+    ensures { Answers (read_line line.now) (words store.old table.old) (words store.new table.new) out.old out.new result }
+{
+    match lines::reading::read_call(line) {
+        Line::Open(t) => answer_open(store, table, t, out),
+        Line::Call(call) => answer_call(store, table, list, line[0], call, out),
+        Line::NoCall => answers::write_no_call(out),
+    }
+}
+
+// A line answered over buffers that are lent, its newline included: the bytes written are returned.
+pub fn answer_line(
+    store: &mut [i32],
+    table: &mut [i16],
+    list: &mut [u16],
+    line: &[u8],
+    out: &mut [u8],
+) -> usize
+    requires { CanAnswer answer_bytes store.old table.old list.old out.old }
+    ensures { AnswersLine line.now (words store.old table.old) (words store.new table.new) out.old out.new result }
+{
+    let last = out.len() - 1;
+    let n = answer_said(store, table, list, line, &mut out[..last]);
+    out[n] = b'\n';
+    n + 1
+}
+
 impl OpenIndex {
     ghost use Rattle.answering.specs.Index.{words_in};
 
@@ -52,44 +113,11 @@ impl OpenIndex {
         }
     }
 
-    fn answer_call(&mut self, letter: u8, call: Call, out: &mut [u8]) -> usize
-        requires letter_is { letter ≡ letter_of (Lines.Call call) }
-        requires room { longest_answer ≤ length out.old }
-        ensures { Answers (Lines.Call call) (words_in self.old) (words_in self.new) out.old out.new result }
-    {
-        let answer = engine::sound::call(&mut self.store, &mut self.table, &mut self.list, call);
-        let n = ids_told(answer);
-        answers::write_answer(letter, answer, &self.list[..n], out)
-    }
-
-    fn answer_open(&mut self, t: i32, out: &mut [u8]) -> usize
-        requires { longest_answer ≤ length out.old }
-        ensures { Answers (Lines.Open t) (words_in self.old) (words_in self.new) out.old out.new result }
-    {
-        let answer = engine::open(&mut self.store, &mut self.table, t);
-        answers::write_answer(b'O', answer, &[], out)
-    }
-
-    // A line answered, without a newline: a call's answer has the letter of its line.
-    fn answer_said(&mut self, line: &[u8], out: &mut [u8]) -> usize
-        requires { longest_answer ≤ length out.old }
-        ensures { Answers (read_line line.now) (words_in self.old) (words_in self.new) out.old out.new result }
-    {
-        match lines::reading::read_call(line) {
-            Line::Open(t) => self.answer_open(t, out),
-            Line::Call(call) => self.answer_call(line[0], call, out),
-            Line::NoCall => answers::write_no_call(out),
-        }
-    }
-
     // A line answered, its newline included: the bytes written are returned.
     pub fn answer_line(&mut self, line: &[u8], out: &mut [u8]) -> usize
         requires { answer_bytes ≤ length out.old }
         ensures { AnswersLine line.now (words_in self.old) (words_in self.new) out.old out.new result }
     {
-        let last = out.len() - 1;
-        let n = self.answer_said(line, &mut out[..last]);
-        out[n] = b'\n';
-        n + 1
+        answer_line(&mut self.store, &mut self.table, &mut self.list, line, out)
     }
 }

@@ -185,6 +185,9 @@ unfolding summed
 summed_more f [] p = omega arith
 summed_more f (q ∷ ps) p = omega (arith, summed_more f ps p)
 
+pub small_room : {most : ℕ} (more : ℕ) (a : Counts) → most ≤ more → SmallCounts most a → SmallCounts more a
+small_room more a h x = omega arith
+
 module _ (w : Words) (ask : Ask) where
   -- the ids of a phase more stand behind those that stood already
   pub counted_also :

@@ -74,7 +74,7 @@ fn choose_in(table: &[i16], p: usize, ask: Ask, marks: &mut [u8; grid::CELLS]) -
 {
     let slot = rows::slot_of(p);
     let view = reaching::view_of(ask.query, p);
-    choosing::choose::choose(table, slot, method_of(ask), view, marks)
+    choosing::choose::choose_by(table, slot, method_of(ask), view, marks)
 }
 
 // Any set of cells of a live phase read, the ids listed to the front of `ids`.

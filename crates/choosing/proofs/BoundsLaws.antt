@@ -7,7 +7,7 @@ use mathlib.Core.List.{List, map, Memᴰ}
 use mathlib.Core.Logic.{⊎_elim, dite}
 use Prim.Native.Nat.{ℕ, zero, suc, ◌+◌, ◌-◌, ◌≤◌, ◌<◌}
 use native.Mathlib.Decide.{ℕ_discrete}
-use native.Mathlib.Nat.{zero-mul, lt_of_mul-lt-mul_right}
+use native.Mathlib.Nat.{mul-zero, zero-mul, suc-mul, lt_of_mul-lt-mul_left, lt_of_mul-lt-mul_right}
 use native.Mathlib.Omega.{arith}
 use lib.IntN.{ℤ}
 use Rattle.grid.specs.Units.{cells}
@@ -29,6 +29,10 @@ use Rattle.methods.proofs.BoundsInOnePass.{blocks_are_visited_row_by_row, after_
 use Rattle.choosing.specs.Bounds.{IsSlot, cells_before}
 
 -- ---- the pass over a block
+
+-- a block with a cell has a column, and a row before whose end a cell is left is one of its rows
+pub has_column : (b : Block) → 0 < cell_count b → 0 < columns_of b
+has_column b h = lt_of_mul-lt-mul_left (rows_of b) (omega (arith, mul-zero (rows_of b)))
 
 pub is_row : (b : Block) (row : ℕ) → cells_before b row < cell_count b → row - b.first_row < rows_of b
 is_row b row h = lt_of_mul-lt-mul_right (columns_of b) h
@@ -60,6 +64,11 @@ no_row b =
 
 pub bounds_at_first : (rows : Rows) (b : Block) {r : Row} → r ≡ empty_row → r ≡ bounds_after (cells_before b b.first_row) rows b
 bounds_at_first rows b e = e ∙ sym (after_none rows b) ∙ sym (ap (λ (k : ℕ). bounds_after k rows b) (no_row b))
+
+pub row_more : (b : Block) (row : ℕ) → b.first_row ≤ row → cells_before b row + columns_of b ≡ cells_before b (row + 1)
+row_more b row h =
+    let one : row + 1 - b.first_row ≡ suc (row - b.first_row) = omega arith in
+    rw one (omega (arith, suc-mul (row - b.first_row) (columns_of b)))
 
 pub bounds_so_far : (rows : Rows) (b : Block) {r : Row} {k n : ℕ} → r ≡ bounds_after k rows b → k ≡ n → r ≡ bounds_after n rows b
 bounds_so_far rows b e p = e ∙ ap (λ (k : ℕ). bounds_after k rows b) p

@@ -7,6 +7,7 @@ use Prim.Native.Nat.{ℕ, zero, suc, ◌+◌, ◌-◌, ◌≤◌, ◌<◌}
 use native.Mathlib.Numerals.{add-one}
 use native.Mathlib.Omega.{arith}
 use lib.IntN.{ℤ}
+use Rattle.ints.specs.Lists.{passing}
 use Rattle.grid.specs.declared.Rect.{Rect}
 use Rattle.grid.proofs.PlacesLaws.{column_on}
 use Rattle.rows.specs.Row.{empty_row, is_empty, same_row, valid_row}
@@ -15,8 +16,10 @@ use Rattle.rows.proofs.RowLaws.{bounds_valid}
 use Rattle.methods.specs.Reach.{block_of, cells_of}
 use Rattle.methods.specs.Aims.{Aim}
 use Rattle.methods.specs.Fair.{Fair}
-use Rattle.methods.specs.Methods.{Rows, Found, found, cells_found, unless_missing, bounds_in, expanded_block, naive_block, semi_naive_block, Search, iterated, iterative_search, most_rounds, choice}
+use Rattle.methods.specs.Methods.{Rows, Found, missing, found, cells_found, unless_missing, bounds_in, expanded_block, naive_block, semi_naive_block}
+use Rattle.methods.specs.Methods.{Search, iterated, iterative_search, most_rounds, Choice, choice}
 use Rattle.methods.specs.Slots.{rows_of_slot}
+use Rattle.methods.specs.Marks.{marks_of, with_cells}
 use Rattle.choosing.specs.Bounds.{IsSlot, BlockOnGrid}
 use Rattle.choosing.specs.Slot.{rows_in}
 use Rattle.choosing.specs.declared.slot.SlotRows.{SlotRows}
@@ -127,14 +130,27 @@ module _ {table : List ℤ} {slot : ℕ} {aim : Aim} {before : List ℕ} (clear 
   unfolding choice no_marks
   iterative_chosen m r = record { marks_are = rw clear at m.marks_are; rounds_are = r }
 
-  -- the cells that are reached, of all cells of the grid
+  -- the cells that are reached, of all cells of the grid, by every number from 3 on
   pub optimal_chosen :
-      ValidRows (rows_of_slot table slot)
+      {method : ℕ}
+      → 3 ≤ method
+      → ValidRows (rows_of_slot table slot)
       → Fair aim
       → Marked before (meeting (rows_of_slot table slot) aim (nonempty (rows_of_slot table slot) places)) marks
-      → ChosenBy 3 table slot aim marks 0
+      → ChosenBy method table slot aim marks 0
   unfolding choice no_marks
-  optimal_chosen valid fair m = record { marks_are = rw clear at m.marks_are ∙ optimal_marks (rows_of_slot table slot) valid aim fair; rounds_are = refl }
+  optimal_chosen {method} h valid fair m =
+      let n : method ≡ suc (suc (suc (method - 3))) = omega arith in
+      rw n (record { marks_are = rw clear at m.marks_are ∙ optimal_marks (rows_of_slot table slot) valid aim fair; rounds_are = refl })
+
+-- where bounds are missing, no method chooses a cell
+pub none_chosen : (method : ℕ) (table : List ℤ) (slot : ℕ) (aim : Aim) {marks : List ℕ} → naive_block (rows_of_slot table slot) aim ≡ missing → marks ≡ no_marks
+    → ChosenBy method table slot aim marks 0
+unfolding choice with_cells passing no_marks
+none_chosen zero table slot aim naive e = record { marks_are = rw naive e; rounds_are = refl }
+none_chosen (suc zero) table slot aim naive e = record { marks_are = rw naive e; rounds_are = refl }
+none_chosen (suc (suc zero)) table slot aim naive e = record { marks_are = rw naive e; rounds_are = rw naive }
+none_chosen (suc (suc (suc n))) table slot aim naive e = record { marks_are = rw naive e; rounds_are = refl }
 
 -- ---- the method of a number
 
@@ -145,3 +161,13 @@ method_chooses zero rows aim = refl
 method_chooses (suc zero) rows aim = refl
 method_chooses (suc (suc zero)) rows aim = refl
 method_chooses (suc (suc (suc n))) rows aim = let e : min (suc (suc (suc n))) 3 ≡ 3 = omega arith in rw e refl
+
+pub chosen_by_number :
+    {n k : ℕ} {table : List ℤ} {slot : ℕ} {aim : Aim} {marks : List ℕ} {rounds : ℕ}
+    → k ≡ min n 3
+    → ChosenBy k table slot aim marks rounds
+    → ChosenBy n table slot aim marks rounds
+chosen_by_number {n} {k} {table} {slot} {aim} e h =
+    let rows = rows_of_slot table slot in
+    let same : choice k rows aim ≡ choice n rows aim = ap (λ (m : ℕ). choice m rows aim) e ∙ method_chooses n rows aim in
+    record { marks_are = h.marks_are ∙ ap (λ (c : Choice). marks_of c.cells) same; rounds_are = h.rounds_are ∙ ap (λ (c : Choice). c.rounds) same }

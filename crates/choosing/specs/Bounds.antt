@@ -25,6 +25,16 @@ pub record CanBoundAfter (k : ℕ) (b : Block) : Type 0 where
   pub block_on : BlockOnGrid b
   pub of_its_cells : k ≤ cell_count b
 
+-- to find the bounds of a block's rows, and those after the first k of its cells, where a table and a slot are lent
+
+pub record CanBound (table : List ℤ) (slot : ℕ) (b : Block) : Type 0 where
+  pub has_slot : HasSlot table slot
+  pub block_on : BlockOnGrid b
+
+pub record CanBoundAfterInSlot (k : ℕ) (table : List ℤ) (slot : ℕ) (b : Block) : Type 0 where
+  pub of_block : CanBound table slot b
+  pub of_its_cells : k ≤ cell_count b
+
 -- how many cells the block's rows before a row have
 abbrev pub cells_before : Block → ℕ → ℕ
 cells_before b row = (row - b.first_row) * columns_of b

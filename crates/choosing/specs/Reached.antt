@@ -1,7 +1,7 @@
 -- The cells of the grid by place, row by row from the low corner, those whose rows are nonempty, those of them that meet the rectangle; and what the
 -- functions of reached ask.
 -- Assumes nothing.
-use Rattle.std.specs.Prelude.{◌≡◌, Bool, not, ℕ, zero, suc, ◌/◌, ◌%◌, ◌≤◌, ◌<◌, length, get_or, take}
+use Rattle.std.specs.Prelude.{◌≡◌, Bool, not, ℕ, zero, suc, ◌/◌, ◌%◌, ◌≤◌, ◌<◌, ℤ, length, get_or, take}
 use mathlib.Core.List.{List, [], ◌∷◌, map, Memᴰ}
 use Rattle.ints.specs.Lists.{passing}
 use Rattle.grid.specs.Units.{side, cells}
@@ -13,6 +13,7 @@ use Rattle.methods.specs.Claims.{ValidRows}
 use Rattle.methods.specs.Methods.{Rows}
 use Rattle.methods.specs.declared.View.{View}
 use Rattle.reaching.specs.Reaching.{IsViewAsk, column_reaches}
+use Rattle.choosing.specs.Bounds.{IsSlot}
 use Rattle.choosing.specs.Mark.{no_marks}
 
 -- ---- places
@@ -95,5 +96,11 @@ pub record CanMarkListed (rows : Rows) (v : View) (listed marks : List ℕ) : Ty
 
 pub record CanMarkReached (rows : Rows) (v : View) (marks : List ℕ) : Type 0 where
   pub valid : ValidRows rows
+  pub ask : IsViewAsk v
+  pub none_set : marks ≡ no_marks
+
+-- the same, where a table and a slot are lent
+pub record CanMarkReachedInSlot (table : List ℤ) (slot : ℕ) (v : View) (marks : List ℕ) : Type 0 where
+  pub of_slot : IsSlot table slot
   pub ask : IsViewAsk v
   pub none_set : marks ≡ no_marks

@@ -10,9 +10,9 @@ ghost use Rattle.choosing.specs.Slot.{rows_in};
 ghost use Rattle.reaching.specs.Reaching.{CanExpandView};
 
 use crate::Searched;
-use crate::bounds::{block_bounds, phase_bounds};
-use crate::mark::{clear, mark_block};
-use crate::reached::mark_reached;
+use crate::bounds::{block_bounds_in, phase_bounds_in};
+use crate::mark::{clear, mark_block_by};
+use crate::reached::mark_reached_in;
 use crate::slot::SlotRows;
 use grid::CurveNumbers;
 use methods::{Block, Method, View};
@@ -38,7 +38,7 @@ fn naive_block(rows: &SlotRows, view: View) -> Option<Block>
     requires { CanFind (rows_in rows.now) view }
     ensures { FoundIs result (naive_block (rows_in rows.now) (aim_of view)) }
 {
-    expanded_block(phase_bounds(rows), view)
+    expanded_block(phase_bounds_in(rows), view)
 }
 
 // The semi-naive method's block: expanded by the bounds of the naive block's rows.
@@ -47,7 +47,7 @@ fn semi_naive_block(rows: &SlotRows, view: View) -> Option<Block>
     ensures { FoundIs result (semi_naive_block (rows_in rows.now) (aim_of view)) }
 {
     let naive = naive_block(rows, view)?;
-    expanded_block(block_bounds(rows, naive), view)
+    expanded_block(block_bounds_in(rows, naive), view)
 }
 
 // The rounds of the iterative method, from the naive block.
@@ -58,7 +58,7 @@ fn search(rows: &SlotRows, view: View, naive: Block) -> Searched
     let mut before = Row::empty();
     let mut block = naive;
     for rounds in 0..MOST_ROUNDS {
-        let bounds = block_bounds(rows, block);
+        let bounds = block_bounds_in(rows, block);
         if bounds.is_empty() {
             return Searched {
                 found: None,
@@ -100,7 +100,7 @@ fn mark_found(curve: &CurveNumbers, found: Option<Block>, marks: &mut [u8])
     ensures { Marked marks.old (cells_found (found_of found)) marks.new }
 {
     if let Some(block) = found {
-        mark_block(curve, block, marks);
+        mark_block_by(curve, block, marks);
     }
 }
 
@@ -117,7 +117,7 @@ pub fn method_of(number: usize) -> Method
 }
 
 // The choice of a method, as marks by curve number, and its rounds. How many cells are marked is not given: cells are counted where they are read.
-pub fn choose(table: &[i16], slot: usize, method: Method, view: View, marks: &mut [u8]) -> usize
+pub fn choose_by(table: &[i16], slot: usize, method: Method, view: View, marks: &mut [u8]) -> usize
     requires { CanChoose table.now slot view marks.old }
     ensures { ChosenBy (number_of method) table.now slot (aim_of view) marks.new result }
 {
@@ -138,8 +138,16 @@ pub fn choose(table: &[i16], slot: usize, method: Method, view: View, marks: &mu
             searched.rounds
         }
         Method::Optimal => {
-            mark_reached(&rows, view, marks);
+            mark_reached_in(&rows, view, marks);
             0
         }
     }
+}
+
+// `choose_by`, for a caller that has the method by its number, any number: from 3 on it is the optimal method.
+pub fn choose(table: &[i16], slot: usize, method: usize, view: View, marks: &mut [u8]) -> usize
+    requires { CanChoose table.now slot view marks.old }
+    ensures { ChosenBy method table.now slot (aim_of view) marks.new result }
+{
+    choose_by(table, slot, method_of(method), view, marks)
 }

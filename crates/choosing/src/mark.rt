@@ -35,12 +35,20 @@ fn mark_row(curve: &CurveNumbers, b: Block, row: usize, marks: &mut [u8])
     }
 }
 
-// Marks a block's cells.
-pub fn mark_block(curve: &CurveNumbers, b: Block, marks: &mut [u8])
+// Marks a block's cells, by the curve numbers that a pass holds.
+pub fn mark_block_by(curve: &CurveNumbers, b: Block, marks: &mut [u8])
     requires { CanMarkBlock b marks.old }
     ensures { Marked marks.old (cells_of b) marks.new }
 {
     for row in b.first_row..=b.last_row {
         mark_row(curve, b, row, marks);
     }
+}
+
+// `mark_block_by`, for a caller that holds no curve numbers: they are made for this block.
+pub fn mark_block(b: Block, marks: &mut [u8])
+    requires { CanMarkBlock b marks.old }
+    ensures { Marked marks.old (cells_of b) marks.new }
+{
+    mark_block_by(&CurveNumbers::new(), b, marks);
 }

@@ -5,9 +5,10 @@ ghost use Rattle.std.specs.Prelude.{◌≡◌, not, cond, [], ◌∷◌, length,
 ghost use Rattle.grid.specs.Units.{cells};
 ghost use Rattle.rows.specs.Row.{is_empty};
 ghost use Rattle.methods.specs.Aims.{aim_of};
+ghost use Rattle.methods.specs.Slots.{rows_of_slot};
 ghost use Rattle.choosing.specs.Mark.{Marked};
 ghost use Rattle.choosing.specs.Reached.{cell_at, places, nonempty, meeting, may_meet};
-ghost use Rattle.choosing.specs.Reached.{IsPlace, ListsNonempty, CanTestPlace, CanKeep, KeepsColumns, CanMarkPlace, CanMarkListed, CanMarkReached};
+ghost use Rattle.choosing.specs.Reached.{IsPlace, ListsNonempty, CanTestPlace, CanKeep, KeepsColumns, CanMarkPlace, CanMarkListed, CanMarkReached, CanMarkReachedInSlot};
 ghost use Rattle.choosing.specs.Slot.{rows_in};
 
 use crate::slot::SlotRows;
@@ -98,7 +99,7 @@ fn mark_listed(rows: &SlotRows, view: View, listed: &[u16], marks: &mut [u8])
 }
 
 // Marks the cells that are reached: their rows are nonempty and, moved by these, they meet the rectangle.
-pub fn mark_reached(rows: &SlotRows, view: View, marks: &mut [u8])
+pub fn mark_reached_in(rows: &SlotRows, view: View, marks: &mut [u8])
     requires { CanMarkReached (rows_in rows.now) view marks.old }
     ensures { Marked marks.old (meeting (rows_in rows.now) (aim_of view) (nonempty (rows_in rows.now) places)) marks.new }
 {
@@ -107,4 +108,12 @@ pub fn mark_reached(rows: &SlotRows, view: View, marks: &mut [u8])
     let k = list_nonempty(rows, &mut full);
     let m = keep_columns(rows, view, &full[..k], &mut kept);
     mark_listed(rows, view, &kept[..m], marks);
+}
+
+// `mark_reached_in`, over a slot of a lent table.
+pub fn mark_reached(table: &[i16], slot: usize, view: View, marks: &mut [u8])
+    requires { CanMarkReachedInSlot table.now slot view marks.old }
+    ensures { Marked marks.old (meeting (rows_of_slot table.now slot) (aim_of view) (nonempty (rows_of_slot table.now slot) places)) marks.new }
+{
+    mark_reached_in(&SlotRows::new(table, slot), view, marks);
 }

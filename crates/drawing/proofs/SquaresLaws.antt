@@ -3,6 +3,8 @@
 use mathlib.Core.Path.{◌≡◌, ap, ◌∙◌}
 use Prim.Native.Nat.{ℕ, suc, ◌+◌, ◌-◌, ◌*◌, ◌^◌, ◌<◌}
 use native.Mathlib.Omega.{arith}
+use lib.Dec.{T, ltb, ltb→lt}
+use Rattle.grid.specs.Curve.{cell}
 use Rattle.grid.specs.declared.Cell.{Cell}
 use Rattle.shapes.specs.Claims.{cell_count}
 use Rattle.shapes.proofs.Squares.{twice, four_quarters, part_within}
@@ -38,6 +40,18 @@ module _ (square : Square) where
           rows = omega (arith, f.rows, part_within corner.row 2 s cuts.upper_of);
           numbers = omega (arith, f.numbers, part_within part 4 (s * s) cuts.part_of);
         }
+
+-- a square of an order above 0 has its quarters
+pub cut :
+    {square : Square} {part right upper : ℕ}
+    → T (ltb part 4)
+    → T (ltb right 2)
+    → T (ltb upper 2)
+    → Fits square
+    → ((square.order ≡ 0) → ⊥)
+    → Cuts square part (cell right upper)
+cut {square} {part} {right} {upper} p r u fits more =
+    record { fits = fits; more = omega arith; part_of = ltb→lt part 4 p; right_of = ltb→lt right 2 r; upper_of = ltb→lt upper 2 u }
 
 -- which are of a lower order and lie on the grid
 pub quarter_lower :

@@ -21,13 +21,16 @@ pub enum Held {
     Enough(usize),
 }
 
-// Reads once, behind the bytes that are held. At the end of the input no more are held than before.
-fn read_more(streams: Streams, input: &mut [u8], held: usize) -> Result<usize, Failure>
+// Reads once, behind the bytes that are held: how many are held then, or none where no more came, at the end of the input.
+fn read_more(streams: Streams, input: &mut [u8], held: usize) -> Result<Option<usize>, Failure>
     requires { held ≤ length input.old }
     ensures { ReadsMore input.old input.new held result }
 {
     let came = streams.read_chunk(&mut input[held..])?;
-    Ok(held + came)
+    if came == 0 {
+        return Ok(None);
+    }
+    Ok(Some(held + came))
 }
 
 // Reads until the input has ended, a read has failed or no byte more matters.
@@ -37,10 +40,9 @@ fn read_input(streams: Streams, input: &mut [u8]) -> Result<Held, Failure>
     let mut held = 0;
     // How much comes at once is known only once it is read, so no `for` goes over it.
     while held < input.len() {
-        let more = read_more(streams, input, held)?;
-        if more == held {
+        let Some(more) = read_more(streams, input, held)? else {
             return Ok(Held::Whole(held));
-        }
+        };
         held = more;
     }
     Ok(Held::Enough(held))

@@ -117,3 +117,10 @@ floats_put f h s e out₀ out i l inv =
       bytes = sym (sym (put_front out₀ text) ∙ inv ∙ left_none floats-in_turn float_bytes 0 floats out i (omega (arith, floats_many f.skip n s)));
       count = sym (lines_bytes f.skip n s (omega (arith, within.most, within.skipped)));
     }
+
+-- ---- "?"
+
+pub other_put : (out : List ℕ) → 2 ≤ length out → set (set out 0 63) 1 10 ≡ 63 ∷ 10 ∷ drop 2 out
+other_put [] h = absurd (omega arith)
+other_put (a ∷ []) h = absurd (omega arith)
+other_put (a ∷ b ∷ out) h = refl

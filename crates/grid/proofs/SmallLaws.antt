@@ -1,15 +1,16 @@
 -- What is made of small numbers is small: the report at a time, the position then, a passage and its products.
 -- Assumes nothing.
-use mathlib.Core.Path.{◌≡◌, refl}
-use Prim.Native.Nat.{suc, ◌≤◌, ◌<◌, ◌^◌}
+use mathlib.Core.Path.{◌≡◌, refl, sym}
+use mathlib.Core.Bool.{true, false}
+use Prim.Native.Nat.{ℕ, suc, ◌+◌, ◌≤◌, ◌<◌, ◌^◌}
 use native.Mathlib.Omega.{arith}
-use lib.IntN.{ℤ, pos, negsuc, nat_abs, ◌-ℤ◌, ◌*ℤ◌}
-use lib.Signed.{mag}
+use lib.IntN.{ℤ, pos, negsuc, nat_abs, neg_ℤ, ◌-ℤ◌, ◌*ℤ◌}
+use lib.Signed.{non_neg, mag}
 use mir.Syntax.{w64}
 use mir.Val.{SFits, hbits}
 use mir.Facts.{to_z-of_z}
 use Rattle.std.proofs.lemmas.Int.{ints, fits_signed_mul}
-use Rattle.ints.proofs.Parts.{mul_small}
+use Rattle.ints.proofs.Parts.{mul_small, true_false}
 use Rattle.ints.proofs.Machine.{back, held}
 use Rattle.grid.specs.Units.{speed_limit}
 use Rattle.grid.specs.Places.{position_after}
@@ -18,6 +19,7 @@ use Rattle.grid.specs.Small.{SmallMove, SmallAxis, SmallReport, SmallFigures, Sm
 use Rattle.grid.specs.declared.Range.{Range}
 use Rattle.grid.specs.declared.Rect.{Rect}
 use Rattle.grid.specs.declared.Report.{Report}
+use Rattle.grid.specs.declared.moments.Passage.{Passage}
 
 pub small_at : {r : Report} {s : ℤ} → SmallFigures r → nat_abs s ≤ 2 ^ 30 → SmallReport r s
 small_at f h =
@@ -25,6 +27,10 @@ small_at f h =
       along_x_lem = record { small_x = f.small_x; small_v = f.small_vx; small_t = f.small_t; small_s = h };
       along_y_lem = record { small_x = f.small_y; small_v = f.small_vy; small_t = f.small_t; small_s = h };
     }
+
+-- a difference
+pub difference_small : (a b : ℤ) (m n : ℕ) → nat_abs a ≤ m → nat_abs b ≤ n → nat_abs (a -ℤ b) ≤ m + n
+difference_small a b m n h k = omega (arith, ints)
 
 -- ---- as the machine computes: what it reads back from the bits of a difference or a product is that number
 
@@ -61,21 +67,38 @@ pub from_small :
     → SmallStart p u r
 from_small p u h e f = rw (e, f) (record { small_p = position_small h.along; small_v = h.along.small_v; small_range = h.small_range })
 
-passage_small : (p v : ℤ) (r : Range) → SmallStart p v r → SmallPassage (passage_of p v r)
+-- by the sign of the speed; z is read back from the three numbers that are put in
+pub upward_is : (p v : ℤ) (r : Range) {z : Passage} → non_neg v ≡ true → z.after ≡ r.low -ℤ p → z.until ≡ r.high -ℤ p → z.speed ≡ v → z ≡ passage_of p v r
+unfolding passage_of
+upward_is p (pos w) r e a b c = λ i. record { after = a i; until = b i; speed = c i }
+upward_is p (negsuc w) r e a b c = absurd (true_false (sym e))
+
+pub downward_is : (p v : ℤ) (r : Range) {z : Passage} → non_neg v ≡ false → z.after ≡ p -ℤ r.high → z.until ≡ p -ℤ r.low → z.speed ≡ neg_ℤ v → z ≡ passage_of p v r
+unfolding passage_of
+downward_is p (pos w) r e a b c = absurd (true_false e)
+downward_is p (negsuc w) r e a b c = λ i. record { after = a i; until = b i; speed = c i }
+
+pub passage_small : (p v : ℤ) (r : Range) → SmallStart p v r → SmallPassage (passage_of p v r)
 unfolding passage_of
 passage_small p (pos w) r s =
     record { small_after = omega (arith, ints); small_until = omega (arith, ints); small_speed = s.small_v }
 passage_small p (negsuc w) r s =
     record { small_after = omega (arith, ints); small_until = omega (arith, ints); small_speed = s.small_v }
 
--- through both ranges of a window
-pub window_meeting : {r : Report} {q : Rect} {first last : ℤ} → SmallWindow r q first last → SmallMeeting (passage (along_x q r) first) (passage (along_y q r) first) (last -ℤ first)
-window_meeting {r} {q} {first} {last} h =
-    let at = small_at h.figures h.small_first in
-    let x : SmallStartAt first r.x r.vx r.t q.x = record { along = at.along_x_lem; small_range = h.rect.along_x_lem } in
-    let y : SmallStartAt first r.y r.vy r.t q.y = record { along = at.along_y_lem; small_range = h.rect.along_y_lem } in
-    record {
-      along_x_lem = passage_small _ r.vx q.x (from_small _ _ x refl refl);
-      along_y_lem = passage_small _ r.vy q.y (from_small _ _ y refl refl);
-      small_d = omega (arith, ints);
-    }
+-- ---- a window
+
+module _ {r : Report} {q : Rect} {first last : ℤ} (h : SmallWindow r q first last) where
+  pub window_x : SmallStartAt first r.x r.vx r.t q.x
+  window_x = record { along = (small_at h.figures h.small_first).along_x_lem; small_range = h.rect.along_x_lem }
+
+  pub window_y : SmallStartAt first r.y r.vy r.t q.y
+  window_y = record { along = (small_at h.figures h.small_first).along_y_lem; small_range = h.rect.along_y_lem }
+
+  -- through both ranges
+  pub window_meeting : SmallMeeting (passage (along_x q r) first) (passage (along_y q r) first) (last -ℤ first)
+  window_meeting =
+      record {
+        along_x_lem = passage_small _ r.vx q.x (from_small _ _ window_x refl refl);
+        along_y_lem = passage_small _ r.vy q.y (from_small _ _ window_y refl refl);
+        small_d = omega (arith, ints);
+      }

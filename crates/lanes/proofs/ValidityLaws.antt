@@ -28,6 +28,9 @@ use Rattle.lanes.proofs.BoundsLaws.{row_take}
 abbrev pub valid_from : List ℤ → ℕ → ℕ → Bool
 valid_from words n i = valid_rows (n - i) (drop (4 * i) words)
 
+pub valid_all : (words : List ℤ) (n : ℕ) → valid_from words n 0 ≡ valid_rows n words
+valid_all words n = let e : n - 0 ≡ n = omega arith in ap (λ (x : ℕ). valid_rows x words) e
+
 pub valid_next : (words : List ℤ) (n i : ℕ) → i < n → valid_from words n i ≡ valid_row (row_from words (4 * i)) && valid_from words n (i + 1)
 unfolding valid_rows
 valid_next words n i h =

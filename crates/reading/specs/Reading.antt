@@ -51,9 +51,17 @@ ids_of = map (λ r. up r.report.id)
 
 -- what reading asks: a sound store's words, one of the three slots, a place for each float held and one more, which is written over, and a query whose
 -- numbers are small
-pub record CanReadCells (s : List ℤ) (slot : ℕ) (query : Query) (ids : List ℕ) : Type 0 where
+pub record CanReadMarked (s : List ℤ) (slot : ℕ) (query : Query) (ids : List ℕ) : Type 0 where
   pub store : IsStore s
   pub one_of_three : slot < 3
+  pub room : capacity < length ids
+  pub small : SmallQuery query
+
+-- the same, and a mark for each cell
+pub record CanReadCells (s : List ℤ) (slot : ℕ) (marks : List ℕ) (query : Query) (ids : List ℕ) : Type 0 where
+  pub store : IsStore s
+  pub one_of_three : slot < 3
+  pub one_each : length marks ≡ cells
   pub room : capacity < length ids
   pub small : SmallQuery query
 

@@ -67,7 +67,7 @@ ranged_here r rs later turn e =
 abbrev pub left : ℕ → ℕ → List ℤ → List Record
 left n i w = read_records (n - i) (drop (record_words * i) w)
 
-left_at : (n i : ℕ) (w : List ℤ) → i < n → left n i w ≡ record_from w (record_words * i) ∷ left n (i + 1) w
+pub left_at : (n i : ℕ) (w : List ℤ) → i < n → left n i w ≡ record_from w (record_words * i) ∷ left n (i + 1) w
 unfolding read_records
 left_at n i w h =
     let e : n - i ≡ suc (n - (i + 1)) = omega arith in
@@ -78,7 +78,7 @@ left_at n i w h =
     (record_at (record_words * i) w)
     (ap (read_records (n - (i + 1))) (drop-drop record_words (record_words * i) w ∙ ap (λ (m : ℕ). drop m w) f))
 
-none_left : (n i : ℕ) (w : List ℤ) → n ≤ i → left n i w ≡ []
+pub none_left : (n i : ℕ) (w : List ℤ) → n ≤ i → left n i w ≡ []
 unfolding read_records
 none_left n i w h = let e : n - i ≡ 0 = omega arith in ap (λ (m : ℕ). read_records m (drop (record_words * i) w)) e
 

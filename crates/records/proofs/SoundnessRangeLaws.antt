@@ -6,9 +6,12 @@ use Prim.Native.Nat.{ℕ, ◌≤◌, ◌<◌, ◌^◌}
 use native.Mathlib.Omega.{arith}
 use lib.IntN.{ℤ, pos, negsuc, nat_abs}
 use lib.Signed.{le_z}
+use mir.Syntax.{w32}
+use mir.Facts.{to_z-of_z}
 use Rattle.ints.specs.Whole.{between}
 use Rattle.ints.proofs.Parts.{up, down, one_part, abs, le_true, true_le}
 use Rattle.ints.proofs.Truth.{and_true, and_left, and_right}
+use Rattle.ints.proofs.Machine.{back, fits}
 use Rattle.grid.specs.Units.{last_time, cells, last_id, last_position}
 use Rattle.grid.specs.Reports.{is_time, is_id, is_position, is_speed, in_range}
 use Rattle.grid.specs.Small.{SmallReport}
@@ -44,6 +47,10 @@ speed_size v h =
     let l = le_true (negsuc 499) v (and_left (le_z (negsuc 499) v) (le_z v (pos 500)) h) in
     let g = le_true v (pos 500) (and_right (le_z (negsuc 499) v) (le_z v (pos 500)) h) in
     omega (arith, abs v, one_part v)
+
+-- as the machine holds it
+pub speed_held : (v : ℤ) → is_speed v ≡ true → back w32 v ≡ v
+speed_held v h = to_z-of_z {w = w32} (fits (omega (arith, speed_size v h, abs v)))
 
 -- ---- a report
 

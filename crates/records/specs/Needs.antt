@@ -3,6 +3,7 @@
 use Rattle.std.specs.Prelude.{◌≡◌, Bool, true, not, List, ℕ, ◌/◌, ◌%◌, ◌^◌, ◌≤◌, ◌<◌, eqb, ℤ, length, get_or, set}
 use Rattle.std.specs.Int.Bits.{bit_and, bit_or}
 use Rattle.grid.specs.Units.{cells, id_marks}
+use Rattle.grid.specs.Curve.{IsCurve}
 use Rattle.grid.specs.Reports.{is_time, in_range}
 use Rattle.grid.specs.declared.Report.{Report}
 use Rattle.rows.specs.Phases.{slots, last_phase}
@@ -21,6 +22,11 @@ pub record CanKey (p : ℕ) (r : Report) : Type 0 where
   pub not_late : p ≤ last_phase
   pub in_range_lem : in_range r ≡ true
   pub sent : is_time r.t ≡ true
+
+-- the same, by a table of curve numbers that is lent
+pub record CanKeyIn (numbers : List ℕ) (p : ℕ) (r : Report) : Type 0 where
+  pub curve : IsCurve numbers
+  pub of_report : CanKey p r
 
 -- a time at which records are judged, and a record whose key is judged at it
 pub record CanJudgeKey (time : ℤ) (r : Record) : Type 0 where

@@ -3,7 +3,7 @@ ghost use Rattle.std.specs.Prelude.{◌≡◌, unwrap_or};
 ghost use Rattle.rows.specs.Phases.{phase_of, live_phases};
 ghost use Rattle.records.specs.Records.{all_records};
 ghost use Rattle.records.specs.Order.{key_at, key_in, slot_of_key, number_of_key, phase_with_slot, phase_of_key, precedes, is_sorted};
-ghost use Rattle.records.specs.Needs.{CellOfSlot, CanKey};
+ghost use Rattle.records.specs.Needs.{CellOfSlot, CanKey, CanKeyIn};
 
 use crate::{RECORD_WORDS, Record};
 use grid::{CurveNumbers, Report};
@@ -75,11 +75,19 @@ pub fn key_of(slot: usize, number: usize) -> i32
     (slot * grid::CELLS + number) as i32
 }
 
-// The key of a report in phase p: the slot, and the curve number of the cell at the phase's reference time.
-pub fn key_in(curve: &CurveNumbers, p: usize, r: Report) -> i32
+// The key of a report in phase p: the slot, and the curve number of the cell at the phase's reference time. `numbers` is the grid's table of curve numbers.
+pub fn key_in(numbers: &[u16; grid::CELLS], p: usize, r: Report) -> i32
+    requires { CanKeyIn numbers.now p r }
+    ensures { result ≡ key_in p r }
+{
+    let number = grid::number_in(numbers, r.cell_at(rows::reference_time(p)));
+    key_of(rows::slot_of(p), number)
+}
+
+// The same by the curve numbers that a pass holds, which are known to be the grid's.
+pub fn key_by(curve: &CurveNumbers, p: usize, r: Report) -> i32
     requires { CanKey p r }
     ensures { result ≡ key_in p r }
 {
-    let number = curve.number_of(r.cell_at(rows::reference_time(p)));
-    key_of(rows::slot_of(p), number)
+    key_in(&curve.numbers, p, r)
 }

@@ -9,7 +9,7 @@ ghost use Rattle.records.specs.Order.{is_sorted};
 ghost use Rattle.records.specs.Soundness.{all_zero, key_is_right, is_sound_record, all_sound, ids_distinct, is_sound_header, is_sound_store, in_own_row, speeds_in_rows, is_sound, all_ranged};
 ghost use Rattle.records.specs.Needs.{mark_bit, is_marked, with_mark, CanJudgeKey, CanFindRow, CanFindRows, HasHeader};
 
-use crate::order::{is_sorted, key_in, number_of_key, phase_at, phase_of_key, slot_of_key};
+use crate::order::{is_sorted, key_by, number_of_key, phase_at, phase_of_key, slot_of_key};
 use crate::{CAPACITY, RECORD_WORDS, Record, STORE_WORDS, held_of};
 use grid::{CurveNumbers, LAST_ID, LAST_POSITION, LAST_TIME, Report};
 use rows::{Drift, Row};
@@ -60,7 +60,7 @@ fn key_is_right(curve: &CurveNumbers, time: i32, r: Record) -> bool
     ensures { result ≡ key_is_right time r }
 {
     let p = phase_of_key(phase_at(time), r.key);
-    phase_at(r.report.t) <= p && r.key == key_in(curve, p, r.report)
+    phase_at(r.report.t) <= p && r.key == key_by(curve, p, r.report)
 }
 
 // Ranges, t at most now, key right.

@@ -10,8 +10,8 @@ use Rattle.std.proofs.Common.{Result, Ok, Err}
 use Rattle.std.proofs.lemmas.List.{take-take}
 use Rattle.streams.specs.Streams.{Moved}
 use Rattle.streams.specs.declared.Failure.{Failure}
-use Rattle.session.specs.Session.{Session, session_after, Stands}
-use Rattle.session.specs.Feeding.{Feeds}
+use Rattle.session.specs.Session.{Session, session_after}
+use Rattle.session.specs.Buffers.{Stands, Feeds}
 use Rattle.session.specs.declared.feeding.Buffers.{Buffers}
 use Rattle.session.specs.declared.feeding.Fed.{Fed}
 use Rattle.session.proofs.Claims.{chunks_are_one_input}

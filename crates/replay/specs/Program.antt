@@ -5,7 +5,8 @@ use Rattle.history.specs.Points.{Point}
 use Rattle.answering.specs.Index.{words_in}
 use Rattle.streams.specs.declared.Failure.{Failure}
 use Rattle.session.specs.declared.feeding.Buffers.{Buffers}
-use Rattle.session.specs.Session.{Session, begun, session_after, written_at_end, ledger_at_end, Stands}
+use Rattle.session.specs.Session.{Session, begun, session_after, written_at_end, ledger_at_end}
+use Rattle.session.specs.Buffers.{Stands}
 use Rattle.replay.specs.declared.Stopped.{Stopped}
 use Rattle.replay.specs.declared.Ended.{Ended}
 

@@ -5,7 +5,8 @@
 
 ghost use Rattle.std.specs.Prelude.{◌≤◌, length};
 ghost use Rattle.answering.specs.Answering.{answer_bytes};
-ghost use Rattle.session.specs.Session.{begun, Stands};
+ghost use Rattle.session.specs.Session.{begun};
+ghost use Rattle.session.specs.Buffers.{Stands};
 ghost use Rattle.streams.specs.Streams.{Moved};
 ghost use Rattle.replay.specs.Program.{TakesChunk, AnswersRead, TakesRead, Runs, Replays};
 

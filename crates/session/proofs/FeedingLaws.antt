@@ -2,7 +2,7 @@
 -- and steps follow one another.
 -- Assumes nothing.
 use mathlib.Core.Path.{◌≡◌, refl, sym, ap, ap₂, subst, ◌∙◌}
-use mathlib.Core.Logic.{∥∥₁_elim}
+use mathlib.Core.Logic.{∥∥₁_elim, ∥∥₁_map}
 use mathlib.Core.Bool.{Bool, true, false, cond}
 use mathlib.Core.List.{List, [], ◌∷◌, ◌++◌, append_assoc, append-nil}
 use Prim.Native.Nat.{ℕ, zero, suc, ◌+◌, ◌-◌, ◌<◌, ◌≤◌}
@@ -12,6 +12,7 @@ use lib.ListN.{length, get_or, take, drop, length-append}
 use lib.Seq.{take_all, take_at, take-suc, length-take-le, take-nil}
 use borrow.Author.Tests.{eq-eqb, ne_eqb, leb-true, leb-false}
 use Rattle.std.proofs.Props.{props}
+use Rattle.records.specs.Words.{Words}
 use Rattle.ledger.specs.Machine.{Ledger}
 use Rattle.history.specs.Points.{Point}
 use Rattle.lines.specs.Lines.{line_length, Written}
@@ -21,11 +22,9 @@ use Rattle.lines.proofs.ReadingLaws.{few_follow}
 use Rattle.lines.specs.declared.Line.{Line}
 use Rattle.lines.specs.declared.Line.TheVariants.{NoCall}
 use Rattle.answering.specs.Replay.{newline, answer_to, next, line_answered, after_line, is_empty}
-use Rattle.answering.specs.Answering.{AnswersLine}
-use Rattle.answering.specs.Index.{words_in}
-use Rattle.session.specs.Session.{Session, taking, writing, session_after, written_for, line_bytes, Stands}
-use Rattle.session.specs.Feeding.{Holds, EndsLine, Takes, Feeds, Ends}
-use Rattle.session.specs.declared.feeding.Buffers.{Buffers}
+use Rattle.answering.specs.Answering.{AtPoint}
+use Rattle.session.specs.Session.{Session, taking, writing, session_after, written_for, line_bytes, Kept, Keeps}
+use Rattle.session.specs.Feeding.{Holds, EndsLine, Takes, FeedsKept, EndsKept}
 
 -- ---- the first bytes of a line
 
@@ -54,43 +53,76 @@ take-one-more (suc n) (a ∷ line) b = ap (λ (x : List ℕ). a ∷ x) (take-one
 
 -- the answer fits, since the index is at a point of some list
 pub answer_fits :
-    (m m' : Buffers) (line out out' : List ℕ) (filled : ℕ) → AnswersLine line (words_in m.index) (words_in m'.index) out out' filled → filled ≤ length out'
-answer_fits m m' line out out' filled a = ∥∥₁_elim m.index.at_point (Prim.hlevel props) (λ p. written_fits (a.writes p.ledger p.point))
+    (k : Kept) (w' : Words) (out out' : List ℕ) (filled : ℕ) → ∥ AtPoint k.index.store k.index.table ∥₁ → EndsLine k w' out out' filled → filled ≤ length out'
+answer_fits k w' out out' filled at a = ∥∥₁_elim at (Prim.hlevel props) (λ p. written_fits (a.writes p.ledger p.point))
 
 -- the bytes held tell the line's call
-module _ (s : Session) (m : Buffers) (k : Stands s m) where
-  told : read_line (take m.held m.line) ≡ read_line s.line
-  told = ap read_line k.begins ∙ first_bytes_tell s.line
+module _ (s : Session) (k : Kept) (h : Keeps s k) where
+  told : read_line (take k.held k.line) ≡ read_line s.line
+  told = ap read_line h.begins ∙ first_bytes_tell s.line
 
 -- ---- one byte taken
 
-module _ (b : ℕ) (m m' : Buffers) (out out' : List ℕ) (filled : ℕ) where
-  -- the line ends
-  pub newline_taken : b ≡ newline → EndsLine m m' out out' filled → Takes b m m' out out' filled
-  newline_taken e a = record {
-    stands = λ s k. rw (eq-eqb b newline e) (record {
-      point = subst (λ (c : Line). Point (next s.ledger c) (words_in m'.index)) (told s m k) (a.answers.leads s.ledger k.point);
-      few = omega (arith, a.empties);
-      begins = rw a.empties (sym (take-nil line_bytes));
-      long = rw a.line_is k.long;
-    });
-    writes = λ s k. rw (eq-eqb b newline e) (subst (λ (c : Line). Written (answer_to s.ledger c ++ newline ∷ []) out out' filled) (told s m k) (a.answers.writes s.ledger k.point));
-    fits = answer_fits m m' (take m.held m.line) out out' filled a.answers;
-  }
+-- the line ends, and none of its bytes is held any more
+pub newline_taken :
+    (b : ℕ) (k : Kept) (w' : Words) (out out' : List ℕ) (filled : ℕ)
+    → ∥ AtPoint k.index.store k.index.table ∥₁
+    → b ≡ newline
+    → EndsLine k w' out out' filled
+    → Takes b k (record { index = w'; line = k.line; held = 0 }) out out' filled
+newline_taken b k w' out out' filled at e a = record {
+  stands = λ s h. rw (eq-eqb b newline e) (record {
+    point = subst (λ (c : Line). Point (next s.ledger c) w') (told s k h) (a.leads s.ledger h.point);
+    few = omega arith;
+    begins = sym (take-nil line_bytes);
+    long = h.long;
+  });
+  writes = λ s h. rw (eq-eqb b newline e) (subst (λ (c : Line). Written (answer_to s.ledger c ++ newline ∷ []) out out' filled) (told s k h) (a.writes s.ledger h.point));
+  fits = answer_fits k w' out out' filled at a;
+}
 
 -- one more byte of the line
 pub other_taken :
-    (b : ℕ) (m m' : Buffers) (out : List ℕ) → m'.held ≤ length m'.line → (b ≡ newline → ⊥) → Holds b m m' → Takes b m m' out out 0
-other_taken b m m' out few ne a = record {
-  stands = λ s k. rw (ne_eqb b newline ne) (record {
-    point = subst (Point s.ledger) (sym a.index_is) k.point;
-    few = omega (arith, few, a.long, k.long);
-    begins = a.bytes ∙ ap₂ (λ (n : ℕ) (x : List ℕ). take n (x ++ b ∷ [])) k.long k.begins ∙ take-one-more line_bytes s.line b;
-    long = a.long ∙ k.long;
+    (b : ℕ) (w : Words) (line line' out : List ℕ) (used used' : ℕ)
+    → length line' ≡ length line
+    → (b ≡ newline → ⊥)
+    → Holds b line used line' used'
+    → Takes b (record { index = w; line = line; held = used }) (record { index = w; line = line'; held = used' }) out out 0
+other_taken b w line line' out used used' same ne a = record {
+  stands = λ s h. rw (ne_eqb b newline ne) (record {
+    point = h.point;
+    few = omega (arith, a.few, h.long);
+    begins = a.bytes ∙ ap₂ (λ (n : ℕ) (x : List ℕ). take n (x ++ b ∷ [])) h.long h.begins ∙ take-one-more line_bytes s.line b;
+    long = same ∙ h.long;
   });
-  writes = λ s k. rw (ne_eqb b newline ne) (record { bytes = refl; count = refl });
+  writes = λ s h. rw (ne_eqb b newline ne) (record { bytes = refl; count = refl });
   fits = omega arith;
 }
+
+-- ---- lent buffers that go on
+
+-- the bytes held, by themselves, are a session of which this is kept
+pub alone :
+    (k : Kept) (p : AtPoint k.index.store k.index.table)
+    → length k.line ≡ line_bytes
+    → k.held ≤ line_bytes
+    → Keeps (record { ledger = p.ledger; line = take k.held k.line }) k
+alone k p long few = record {
+  point = p.point;
+  few = few;
+  begins = sym (take_all line_bytes (take k.held k.line) (omega (arith, length-take-le k.held k.line (omega (arith, long)))));
+  long = long;
+}
+
+-- so what leads each session on leaves a point, and few bytes held
+module _
+    (k k' : Kept) (on : Session → Session) (leads : (s : Session) → Keeps s k → Keeps (on s) k') (at : ∥ AtPoint k.index.store k.index.table ∥₁)
+    (long : length k.line ≡ line_bytes) (few : k.held ≤ line_bytes) where
+  pub at_point_then : ∥ AtPoint k'.index.store k'.index.table ∥₁
+  at_point_then = ∥∥₁_map at (λ p. record { ledger = _; point = (leads _ (alone k p long few)).point })
+
+  pub few_then : k'.held ≤ line_bytes
+  few_then = ∥∥₁_elim at (Prim.hlevel props) (λ p. (leads _ (alone k p long few)).few)
 
 -- ---- one byte after another
 
@@ -127,26 +159,26 @@ module _ (out text ys : List ℕ) (filled r : ℕ) (h : filled ≤ length out) (
       ∙ take_at (take filled out ++ text) rest (filled + r) (length-append (take filled out) text ∙ omega (arith, length-take-le filled out h, w.count))
 
 -- after the first i bytes of a chunk
-module _ (chunk : List ℕ) (m₀ : Buffers) where
-  pub record Going (m : Buffers) (out : List ℕ) (filled i : ℕ) : Type 0 where
+module _ (chunk : List ℕ) (k₀ : Kept) where
+  pub record Going (k : Kept) (out : List ℕ) (filled i : ℕ) : Type 0 where
     pub fits : filled ≤ length out
     pub first : i ≡ 0 → filled ≡ 0
-    pub stands : (s : Session) → Stands s m₀ → Stands (session_after s (take i chunk)) m
-    pub writes : (s : Session) → Stands s m₀ → take filled out ≡ written_for s (take i chunk)
+    pub stands : (s : Session) → Keeps s k₀ → Keeps (session_after s (take i chunk)) k
+    pub writes : (s : Session) → Keeps s k₀ → take filled out ≡ written_for s (take i chunk)
 
-  pub going_begins : (out : List ℕ) → Going m₀ out 0 0
+  pub going_begins : (out : List ℕ) → Going k₀ out 0 0
   unfolding session_after written_for
-  going_begins out = record { fits = omega arith; first = λ e. refl; stands = λ s k. k; writes = λ s k. refl }
+  going_begins out = record { fits = omega arith; first = λ e. refl; stands = λ s h. h; writes = λ s h. refl }
 
-  module _ (m : Buffers) (out : List ℕ) (filled i : ℕ) (going : Going m out filled i) where
+  module _ (k : Kept) (out : List ℕ) (filled i : ℕ) (going : Going k out filled i) where
     pub going_on :
-        (h : i < length chunk) (m' : Buffers) (ys : List ℕ) (r : ℕ)
-        → Takes (get_or chunk i 0) m m' (behind out filled) ys r
-        → Going m' (with_behind out filled ys) (filled + r) (i + 1)
-    going_on h m' ys r t =
+        (h : i < length chunk) (k' : Kept) (ys : List ℕ) (r : ℕ)
+        → Takes (get_or chunk i 0) k k' (behind out filled) ys r
+        → Going k' (with_behind out filled ys) (filled + r) (i + 1)
+    going_on h k' ys r t =
         let b = get_or chunk i 0 in
         let one : i + 1 ≡ suc i = omega arith in
-        let more : take (i + 1) chunk ≡ take i chunk ++ b ∷ [] = ap (λ (k : ℕ). take k chunk) one ∙ take-suc chunk i 0 h in
+        let more : take (i + 1) chunk ≡ take i chunk ++ b ∷ [] = ap (λ (n : ℕ). take n chunk) one ∙ take-suc chunk i 0 h in
         record {
           fits =
               omega (
@@ -157,17 +189,17 @@ module _ (chunk : List ℕ) (m₀ : Buffers) where
                 length-take-le filled out going.fits,
               );
           first = λ e. absurd (omega arith);
-          stands = λ s k.
-              subst (λ (x : Session). Stands x m') (sym (ap (session_after s) more ∙ session_one_more (take i chunk) s b))
-              (t.stands (session_after s (take i chunk)) (going.stands s k));
-          writes = λ s k.
-              written_behind out (writing (session_after s (take i chunk)) b) ys filled r going.fits (t.writes (session_after s (take i chunk)) (going.stands s k))
-              ∙ ap (λ (x : List ℕ). x ++ writing (session_after s (take i chunk)) b) (going.writes s k)
+          stands = λ s q.
+              subst (λ (x : Session). Keeps x k') (sym (ap (session_after s) more ∙ session_one_more (take i chunk) s b))
+              (t.stands (session_after s (take i chunk)) (going.stands s q));
+          writes = λ s q.
+              written_behind out (writing (session_after s (take i chunk)) b) ys filled r going.fits (t.writes (session_after s (take i chunk)) (going.stands s q))
+              ∙ ap (λ (x : List ℕ). x ++ writing (session_after s (take i chunk)) b) (going.writes s q)
               ∙ sym (ap (written_for s) more ∙ written_one_more (take i chunk) s b);
         }
 
-    pub going_ends : i ≤ length chunk → (0 < length chunk → 0 < i) → Feeds chunk m₀ m out (record { taken = i; filled = filled })
-    going_ends h more = record { stands = going.stands; writes = going.writes; within = h; goes_on = more; fits = going.fits }
+    pub going_ends : i ≤ length chunk → (0 < length chunk → 0 < i) → FeedsKept chunk k₀ k out (record { taken = i; filled = filled; held = k.held })
+    going_ends h more = record { stands = going.stands; writes = going.writes; within = h; goes_on = more; fits = going.fits; held_is = refl }
 
     -- answers that leave no room are not those to no byte
     pub some_taken : 0 < filled → 0 < i
@@ -179,38 +211,53 @@ module _ (chunk : List ℕ) (m₀ : Buffers) where
 
 -- ---- the end of the input
 
-module _ (m : Buffers) where
-  nothing_held : (s : Session) → Stands s m → m.held ≡ 0 → s.line ≡ []
-  nothing_held s k e = go s.line (ap (λ (n : ℕ). take n m.line) (sym e) ∙ k.begins)
+module _ (k : Kept) where
+  nothing_held : (s : Session) → Keeps s k → k.held ≡ 0 → s.line ≡ []
+  nothing_held s h e = go s.line (ap (λ (n : ℕ). take n k.line) (sym e) ∙ h.begins)
     where
       go : (l : List ℕ) → [] ≡ take line_bytes l → l ≡ []
       go [] e = refl
       go (b ∷ l) e = absurd (omega (arith, ap length e))
 
-  some_held : (s : Session) → Stands s m → 0 < m.held → is_empty s.line ≡ false
-  some_held s k h = go s.line k.begins
+  some_held : (s : Session) → Keeps s k → 0 < k.held → is_empty s.line ≡ false
+  some_held s h some = go s.line h.begins
     where
-      go : (l : List ℕ) → take m.held m.line ≡ take line_bytes l → is_empty l ≡ false
-      go [] e = absurd (omega (arith, ap length e, length-take-le m.held m.line (omega (arith, k.few, k.long))))
+      go : (l : List ℕ) → take k.held k.line ≡ take line_bytes l → is_empty l ≡ false
+      go [] e = absurd (omega (arith, ap length e, length-take-le k.held k.line (omega (arith, h.few, h.long))))
       go (b ∷ l) e = refl
 
-  pub ends_empty : (out : List ℕ) → m.held ≡ 0 → Ends m m out 0
+  pub ends_empty : (out : List ℕ) → k.held ≡ 0 → EndsKept k k.index out 0
   ends_empty out e = record {
-    leads = λ s k.
-        subst (λ (l : Ledger). Point l (words_in m.index)) (sym (ap (λ (l : List ℕ). cond (is_empty l) s.ledger (after_line s.ledger l)) (nothing_held s k e))) k.point;
-    writes = λ s k. sym (ap (λ (l : List ℕ). cond (is_empty l) [] (line_answered s.ledger l)) (nothing_held s k e));
+    leads = λ s h.
+        subst (λ (l : Ledger). Point l k.index) (sym (ap (λ (l : List ℕ). cond (is_empty l) s.ledger (after_line s.ledger l)) (nothing_held s h e))) h.point;
+    writes = λ s h. sym (ap (λ (l : List ℕ). cond (is_empty l) [] (line_answered s.ledger l)) (nothing_held s h e));
     fits = omega arith;
   }
 
-  pub ends_line : (m' : Buffers) (out out' : List ℕ) (filled : ℕ) → 0 < m.held → EndsLine m m' out out' filled → Ends m m' out' filled
-  ends_line m' out out' filled h a = record {
-    leads = λ s k.
-        subst (λ (l : Ledger). Point l (words_in m'.index))
-        (ap (next s.ledger) (told s m k) ∙ sym (ap (λ (b : Bool). cond b s.ledger (after_line s.ledger s.line)) (some_held s k h)))
-        (a.answers.leads s.ledger k.point);
-    writes = λ s k.
-        written_front (a.answers.writes s.ledger k.point)
-        ∙ ap (λ (c : Line). answer_to s.ledger c ++ newline ∷ []) (told s m k)
-        ∙ sym (ap (λ (b : Bool). cond b [] (line_answered s.ledger s.line)) (some_held s k h));
-    fits = answer_fits m m' (take m.held m.line) out out' filled a.answers;
+  pub ends_line :
+      (w' : Words) (out out' : List ℕ) (filled : ℕ)
+      → ∥ AtPoint k.index.store k.index.table ∥₁
+      → 0 < k.held
+      → EndsLine k w' out out' filled
+      → EndsKept k w' out' filled
+  ends_line w' out out' filled at some a = record {
+    leads = λ s h.
+        subst (λ (l : Ledger). Point l w')
+        (ap (next s.ledger) (told s k h) ∙ sym (ap (λ (b : Bool). cond b s.ledger (after_line s.ledger s.line)) (some_held s h some)))
+        (a.leads s.ledger h.point);
+    writes = λ s h.
+        written_front (a.writes s.ledger h.point)
+        ∙ ap (λ (c : Line). answer_to s.ledger c ++ newline ∷ []) (told s k h)
+        ∙ sym (ap (λ (b : Bool). cond b [] (line_answered s.ledger s.line)) (some_held s h some));
+    fits = answer_fits k w' out out' filled at a;
   }
+
+  -- and at a point
+  pub at_point_at_end :
+      (w' : Words) (out' : List ℕ) (filled : ℕ)
+      → ∥ AtPoint k.index.store k.index.table ∥₁
+      → length k.line ≡ line_bytes
+      → k.held ≤ line_bytes
+      → EndsKept k w' out' filled
+      → ∥ AtPoint w'.store w'.table ∥₁
+  at_point_at_end w' out' filled at long few e = ∥∥₁_map at (λ p. record { ledger = _; point = e.leads _ (alone k p long few) })

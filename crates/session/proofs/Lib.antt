@@ -1,2 +1,3 @@
 pub mod FeedingLaws
+pub mod BuffersLaws
 pub mod Claims

@@ -1,42 +1,45 @@
--- What the functions that take bytes leave, whatever the session that the buffers stand for.
+-- What the functions that take bytes ask and leave, whatever the session of which this is kept.
 -- Assumes nothing.
-use Rattle.std.specs.Prelude.{◌≡◌, List, [], ◌∷◌, ◌++◌, ℕ, ◌<◌, ◌≤◌, length, take}
+use Rattle.std.specs.Prelude.{◌≡◌, List, [], ◌∷◌, ◌++◌, ℕ, ℤ, ◌<◌, ◌≤◌, length, take}
+use Rattle.records.specs.Words.{Words}
 use Rattle.history.specs.Points.{Point}
 use Rattle.lines.specs.Lines.{Written}
-use Rattle.answering.specs.Answering.{AnswersLine}
-use Rattle.answering.specs.Index.{words_in}
-use Rattle.session.specs.declared.feeding.Buffers.{Buffers}
+use Rattle.answering.specs.Answering.{answer_bytes, CanAnswer, AnswersLine}
 use Rattle.session.specs.declared.feeding.Fed.{Fed}
-use Rattle.session.specs.Session.{Session, taking, writing, session_after, written_for, written_at_end, ledger_at_end, Stands}
+use Rattle.session.specs.Session.{Session, taking, writing, session_after, written_for, written_at_end, ledger_at_end, line_bytes, Kept, Keeps}
+
+-- at a point of some list, with a list and a line of their lengths, few bytes of it held, and room for one more answer
+pub record CanFeed (store table : List ℤ) (list line : List ℕ) (used : ℕ) (out : List ℕ) : Type 0 where
+  pub can_answer : CanAnswer answer_bytes store table list out
+  pub line_long : length line ≡ line_bytes
+  pub few : used ≤ line_bytes
 
 -- one more byte of a line held, of those that fit
-pub record Holds (b : ℕ) (m m' : Buffers) : Type 0 where
-  pub index_is : words_in m'.index ≡ words_in m.index
-  pub long : length m'.line ≡ length m.line
-  pub bytes : take m'.held m'.line ≡ take (length m.line) (take m.held m.line ++ b ∷ [])
+pub record Holds (b : ℕ) (line : List ℕ) (used : ℕ) (line' : List ℕ) (used' : ℕ) : Type 0 where
+  pub bytes : take used' line' ≡ take (length line) (take used line ++ b ∷ [])
+  pub few : used' ≤ length line
 
--- the bytes held answered as a line, and none held any more
-pub record EndsLine (m m' : Buffers) (out out' : List ℕ) (filled : ℕ) : Type 0 where
-  pub answers : AnswersLine (take m.held m.line) (words_in m.index) (words_in m'.index) out out' filled
-  pub line_is : m'.line ≡ m.line
-  pub empties : m'.held ≡ 0
+-- the bytes held answered as a line
+abbrev pub EndsLine : Kept → Words → List ℕ → List ℕ → ℕ → Type 0
+EndsLine k w' out out' filled = AnswersLine (take k.held k.line) k.index w' out out' filled
 
--- one byte taken, whatever the session that the buffers stand for
-pub record Takes (b : ℕ) (m m' : Buffers) (out out' : List ℕ) (filled : ℕ) : Type 0 where
-  pub stands : (s : Session) → Stands s m → Stands (taking s b) m'
-  pub writes : (s : Session) → Stands s m → Written (writing s b) out out' filled
+-- one byte taken, whatever the session of which this is kept
+pub record Takes (b : ℕ) (k k' : Kept) (out out' : List ℕ) (filled : ℕ) : Type 0 where
+  pub stands : (s : Session) → Keeps s k → Keeps (taking s b) k'
+  pub writes : (s : Session) → Keeps s k → Written (writing s b) out out' filled
   pub fits : filled ≤ length out'
 
 -- the first `taken` bytes of a chunk taken, one at least where there is one; the caller goes on from there
-pub record Feeds (chunk : List ℕ) (m m' : Buffers) (out' : List ℕ) (fed : Fed) : Type 0 where
-  pub stands : (s : Session) → Stands s m → Stands (session_after s (take fed.taken chunk)) m'
-  pub writes : (s : Session) → Stands s m → take fed.filled out' ≡ written_for s (take fed.taken chunk)
+pub record FeedsKept (chunk : List ℕ) (k k' : Kept) (out' : List ℕ) (fed : Fed) : Type 0 where
+  pub stands : (s : Session) → Keeps s k → Keeps (session_after s (take fed.taken chunk)) k'
+  pub writes : (s : Session) → Keeps s k → take fed.filled out' ≡ written_for s (take fed.taken chunk)
   pub within : fed.taken ≤ length chunk
   pub goes_on : 0 < length chunk → 0 < fed.taken
   pub fits : fed.filled ≤ length out'
+  pub held_is : fed.held ≡ k'.held
 
 -- the line that lacks its newline answered
-pub record Ends (m m' : Buffers) (out' : List ℕ) (filled : ℕ) : Type 0 where
-  pub leads : (s : Session) → Stands s m → Point (ledger_at_end s) (words_in m'.index)
-  pub writes : (s : Session) → Stands s m → take filled out' ≡ written_at_end s
+pub record EndsKept (k : Kept) (w' : Words) (out' : List ℕ) (filled : ℕ) : Type 0 where
+  pub leads : (s : Session) → Keeps s k → Point (ledger_at_end s) w'
+  pub writes : (s : Session) → Keeps s k → take filled out' ≡ written_at_end s
   pub fits : filled ≤ length out'

@@ -1,12 +1,11 @@
--- The replay program as a machine that takes one byte at a time, and how its buffers stand to it. That it writes what answering's Replay says is
+-- The replay program as a machine that takes one byte at a time, and how what is kept of its input stands to it. That it writes what answering's Replay says is
 -- claimed in specs/Claims.antt.
 -- Assumes nothing.
-use Rattle.std.specs.Prelude.{◌≡◌, cond, List, [], ◌∷◌, ◌++◌, ℕ, ◌+◌, ◌≤◌, eqb, pos, length, take}
+use Rattle.std.specs.Prelude.{◌≡◌, cond, List, [], ◌∷◌, ◌++◌, ℕ, ◌+◌, ◌≤◌, eqb, ℤ, pos, length, take}
 use Rattle.ledger.specs.Machine.{Ledger, opened}
 use Rattle.history.specs.Points.{Point}
+use Rattle.records.specs.Words.{Words, words}
 use Rattle.lines.specs.Lines.{most_numbers, line_length}
-use Rattle.answering.specs.Index.{words_in}
-use Rattle.session.specs.declared.feeding.Buffers.{Buffers}
 use Rattle.answering.specs.Replay.{newline, line_answered, after_line, is_empty}
 
 -- ---- byte by byte
@@ -45,15 +44,25 @@ written_at_end s = cond (is_empty s.line) [] (line_answered s.ledger s.line)
 abbrev pub ledger_at_end : Session → Ledger
 ledger_at_end s = cond (is_empty s.line) s.ledger (after_line s.ledger s.line)
 
--- ---- the buffers
+-- ---- what is kept
 
 -- one byte more than the longest call line: those of a longer line are no call, as it is
 abbrev pub line_bytes : ℕ
 line_bytes = line_length most_numbers + 1
 
--- the buffers of a session: the index at a point of a list whose ledger is the session's, and the first bytes of the line
-pub record Stands (s : Session) (m : Buffers) : Type 0 where
-  pub point : Point s.ledger (words_in m.index)
-  pub few : m.held ≤ line_bytes
-  pub begins : take m.held m.line ≡ take line_bytes s.line
-  pub long : length m.line ≡ line_bytes
+-- what is kept from byte to byte: the words of the index, and the bytes of the line that are held, in front of its place
+pub record Kept : Type 0 where
+  pub index : Words
+  pub line : List ℕ
+  pub held : ℕ
+
+-- in buffers that are lent
+abbrev pub lent : List ℤ → List ℤ → List ℕ → ℕ → Kept
+lent store table line held = record { index = words store table; line = line; held = held }
+
+-- what is kept of a session: the index at a point of a list whose ledger is the session's, and the first bytes of the line
+pub record Keeps (s : Session) (k : Kept) : Type 0 where
+  pub point : Point s.ledger k.index
+  pub few : k.held ≤ line_bytes
+  pub begins : take k.held k.line ≡ take line_bytes s.line
+  pub long : length k.line ≡ line_bytes

@@ -1,4 +1,5 @@
 pub mod FindingLaws
+pub mod MovingLaws
 pub mod InsertingLaws
 pub mod RemovingLaws
 pub mod SortingListsLaws

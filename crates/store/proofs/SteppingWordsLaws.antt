@@ -20,9 +20,9 @@ use Rattle.store.specs.Inserting.{inserted_all}
 use Rattle.store.specs.Widening.{widened_by_all}
 use Rattle.store.specs.Stepping.{placed_in, lives_on, moves, replaced, moved_records}
 use Rattle.records.specs.Places.{HasWords}
-use Rattle.store.specs.Needs.{KeptFirst, Taken, PlaceAsked}
+use Rattle.store.specs.Needs.{IsStep, KeptFirst, Taken, PlaceAsked}
 use Rattle.records.specs.declared.Record.{Record}
-use Rattle.store.specs.declared.step.Step.{Step}
+use Rattle.store.specs.declared.stepping.Step.{Step}
 use Rattle.records.proofs.RecordsLaws.{words_length, read_back, now_of-store, records_of-store, read_length, written_read}
 use Rattle.records.proofs.SoundnessRangeLaws.{last_phase_lem}
 use Rattle.store.proofs.WritingLaws.{words_append}
@@ -33,11 +33,11 @@ use Rattle.store.proofs.SteppingLaws.{placed_ranged, halves_few}
 
 -- ---- the phases of a step are those of a time
 
-pub from_small : (step : Step) → step.from ≤ last_phase
-from_small step = omega (arith, step.from_is, last_phase_lem step.now step.now_is_time)
+pub from_small : (step : Step) → IsStep step → step.from ≤ last_phase
+from_small step i = omega (arith, i.from_is, last_phase_lem step.now i.is_now)
 
-pub to_small : (step : Step) → step.to ≤ last_phase
-to_small step = omega (arith, step.to_is, last_phase_lem step.time step.time_is_time)
+pub to_small : (step : Step) → IsStep step → step.to ≤ last_phase
+to_small step i = omega (arith, i.to_is, last_phase_lem step.time i.is_time_lem)
 
 -- a store with some records
 module _ (now : ℤ) (rs : List Record) (s : List ℤ) (e : s ≡ store_of now rs) where

@@ -6,12 +6,13 @@ use Rattle.ints.specs.Lists.{passing}
 use Rattle.grid.specs.Units.{capacity}
 use Rattle.grid.specs.Reports.{is_time, in_range}
 use Rattle.grid.specs.declared.Report.{Report}
-use Rattle.rows.specs.Phases.{last_phase}
+use Rattle.rows.specs.Phases.{phase_of, last_phase}
 use Rattle.rows.specs.Table.{table_words}
 use Rattle.records.specs.Records.{record_words, held_of, read_records, records_of, words_of_all, float_words, all_records}
 use Rattle.records.specs.Order.{is_sorted}
 use Rattle.records.specs.Soundness.{is_ranged, all_ranged, IsStore}
 use Rattle.store.specs.Stepping.{replaced}
+use Rattle.store.specs.declared.stepping.Step.{Step}
 use Rattle.records.specs.declared.Record.{Record}
 use Rattle.records.specs.Places.{HasWords}
 
@@ -108,7 +109,7 @@ pub record MergeInAsked (s b space : List ℤ) : Type 0 where
   pub put_all : PutAllAsked s b
   pub room : length space ≡ float_words
 
--- ---- stepping.rt and step.rt: a report placed, and the clock step from now to a time
+-- ---- stepping.rt: a report placed, and the clock step from now to a time
 
 -- a phase and a report to place in it
 pub record ReportAsked (p : ℕ) (r : Report) : Type 0 where
@@ -121,9 +122,17 @@ pub record AreTimes (now time : ℤ) : Type 0 where
   pub is_now : is_time now ≡ true
   pub is_time_lem : is_time time ≡ true
 
+-- a clock step between two times, with the phases in which they lie
+pub record IsStep (step : Step) : Type 0 where
+  pub is_now : is_time step.now ≡ true
+  pub is_time_lem : is_time step.time ≡ true
+  pub from_is : step.from ≡ phase_of step.now
+  pub to_is : step.to ≡ phase_of step.time
+
 -- a store to take the records that move out of, and words for all of them
-pub record TakeAsked (s dead : List ℤ) : Type 0 where
+pub record TakeAsked (s : List ℤ) (step : Step) (dead : List ℤ) : Type 0 where
   pub store : IsStore s
+  pub is_step : IsStep step
   pub room : length dead ≡ float_words
 
 -- the records that stay written one after the other behind record 0 of a store, the words from its last record on as they were; what lies between
@@ -146,6 +155,7 @@ pub record PlaceAsked (s table dead : List ℤ) : Type 0 where
   pub widen_all : WidenAllAsked table dead
 
 -- a store and a table over which the clock steps
-pub record StepAsked (s table : List ℤ) : Type 0 where
+pub record StepAsked (s table : List ℤ) (step : Step) : Type 0 where
   pub store : IsStore s
   pub table_long : length table ≡ table_words
+  pub is_step : IsStep step

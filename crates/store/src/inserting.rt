@@ -5,6 +5,7 @@ ghost use Rattle.store.specs.Inserting.{inserted};
 ghost use Rattle.store.specs.Needs.{InsertAsked};
 
 use super::finding::place_of;
+use super::moving::move_up;
 use super::writing::{set_held, write_record};
 use records::{RECORD_WORDS, Record, held_of};
 
@@ -16,7 +17,7 @@ pub fn insert(store: &mut [i32], r: Record)
     let n = held_of(store);
     let start = RECORD_WORDS * place_of(store, r) + RECORD_WORDS;
     let end = RECORD_WORDS * n + RECORD_WORDS;
-    store.copy_within(start..end, start + RECORD_WORDS);
+    move_up(store, start, end);
     write_record(store, start, r);
     set_held(store, n + 1);
 }

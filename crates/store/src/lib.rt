@@ -3,10 +3,10 @@
 
 pub mod finding;
 pub mod inserting;
+mod moving;
 pub mod opening;
 pub mod removing;
 pub mod sorting;
-pub mod step;
 pub mod stepping;
 pub mod widening;
 pub mod writing;

@@ -6,6 +6,7 @@ ghost use Rattle.store.specs.Removing.{removed};
 ghost use Rattle.store.specs.Needs.{RemoveAsked};
 
 use super::finding::index_of;
+use super::moving::move_down;
 use super::writing::set_held;
 use records::{RECORD_WORDS, held_of};
 
@@ -19,7 +20,7 @@ fn remove_at(store: &mut [i32], i: usize)
     let start = RECORD_WORDS * i + RECORD_WORDS;
     let last = RECORD_WORDS * n;
     let end = last + RECORD_WORDS;
-    store.copy_within(start + RECORD_WORDS..end, start);
+    move_down(store, start, end);
     store[last..end].fill(0);
     set_held(store, n - 1);
 }

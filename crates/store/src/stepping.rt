@@ -7,15 +7,46 @@ ghost use Rattle.records.specs.Records.{now_of, held_of, records_of, store_of, a
 ghost use Rattle.store.specs.Inserting.{inserted_all};
 ghost use Rattle.store.specs.Widening.{widened_by_all};
 ghost use Rattle.store.specs.Stepping.{placed_in, lives_on, moves, replaced, moved_records};
-ghost use Rattle.store.specs.Needs.{ReportAsked, TakeAsked, KeptFirst, Taken, PlaceAsked, StepAsked};
+ghost use Rattle.store.specs.Needs.{ReportAsked, AreTimes, IsStep, TakeAsked, KeptFirst, Taken, PlaceAsked, StepAsked};
 
 use super::sorting::put_all;
-use super::step::Step;
 use super::widening::widen_all;
 use super::writing::{keep_first, write_record};
 use grid::{CurveNumbers, Report};
-use records::order::key_in;
+use records::order::{key_by, phase_of_key};
 use records::{RECORD_WORDS, Record, held_of};
+use rows::{is_live, phase_of};
+
+// A clock step: from now to a time, and the phases in which the two lie.
+#[derive(Clone, Copy)]
+pub struct Step {
+    pub now: i64,
+    pub time: i64,
+    pub from: usize,
+    pub to: usize,
+}
+
+impl Step {
+    pub fn between(now: i64, time: i64) -> Step
+        requires { AreTimes now time }
+        ensures { (result.now ≡ now) × (result.time ≡ time) × (IsStep result) }
+    {
+        Step {
+            now,
+            time,
+            from: phase_of(now),
+            to: phase_of(time),
+        }
+    }
+
+    // Whether a record's phase lives on: it stays as it is.
+    fn lives_on(self, r: Record) -> bool
+        requires { IsStep self }
+        ensures { result ≡ lives_on self.now self.time r }
+    {
+        is_live(self.to, phase_of_key(self.from, r.key))
+    }
+}
 
 // A report placed in phase p, by the curve numbers that a pass holds.
 fn place_by(curve: &CurveNumbers, p: usize, r: Report) -> Record
@@ -23,7 +54,7 @@ fn place_by(curve: &CurveNumbers, p: usize, r: Report) -> Record
     ensures { result ≡ placed_in p r }
 {
     Record {
-        key: key_in(curve, p, r),
+        key: key_by(curve, p, r),
         report: r,
     }
 }
@@ -39,7 +70,7 @@ pub fn place_in(p: usize, r: Report) -> Record
 // many are kept. The count and the words after the kept records stay as they are: `take_dead` sets them. (The pass of crate retiring is apart: see there.)
 #[tactic(auto, using(records::proofs::PlacesLaws::store_room))]
 fn keep_live(store: &mut [i32], step: Step, dead: &mut [i32]) -> usize
-    requires { TakeAsked store.old dead.old }
+    requires { TakeAsked store.old step dead.old }
     ensures kept_first { KeptFirst (lives_on step.now step.time) store.old result store.new }
     ensures taken { Taken (phase_of step.time) (moves step.now step.time) (records_of store.old) (held_of store.old - result) dead.new }
 {
@@ -65,7 +96,7 @@ fn keep_live(store: &mut [i32], step: Step, dead: &mut [i32]) -> usize
 // them, since the project has no heap.
 #[tactic(auto, using(records::proofs::PlacesLaws::store_room))]
 fn take_dead(store: &mut [i32], step: Step, dead: &mut [i32]) -> usize
-    requires { TakeAsked store.old dead.old }
+    requires { TakeAsked store.old step dead.old }
     ensures store_after { store.new ≡ store_of (now_of store.old) (passing (lives_on step.now step.time) (records_of store.old)) }
     ensures taken { Taken (phase_of step.time) (moves step.now step.time) (records_of store.old) result dead.new }
 {
@@ -90,7 +121,7 @@ fn place_dead(store: &mut [i32], table: &mut [i16], dead: &[i32])
 
 // The records that move are placed in the phase of the time, and the row of each is widened. The time itself is set apart.
 pub fn move_records(store: &mut [i32], table: &mut [i16], step: Step)
-    requires { StepAsked store.old table.old }
+    requires { StepAsked store.old table.old step }
     ensures store_after { store.new ≡ store_of (now_of store.old) (moved_records step.now step.time (records_of store.old)) }
     ensures table_after { table.new ≡ widened_by_all table.old (replaced (phase_of step.time) (moves step.now step.time) (records_of store.old)) }
 {

@@ -17,8 +17,8 @@ pub enum Failure {
 
 // The standard streams of a program, and the name under which it tells a failure.
 #[derive(Clone, Copy)]
-pub struct Streams {
-    pub program: &'static [u8],
+pub struct Streams<'a> {
+    pub program: &'a [u8],
     pub input: Stdin,
     pub output: Stdout,
     pub errors: Stderr,
@@ -67,9 +67,9 @@ impl Failure {
     }
 }
 
-impl Streams {
+impl<'a> Streams<'a> {
     // Those that `main` is given.
-    pub fn of(rt: &HostRuntime, program: &'static [u8]) -> Self
+    pub fn of(rt: &HostRuntime, program: &'a [u8]) -> Self
         ensures { result.program.now ≡ program.now }
     {
         Streams {

@@ -21,7 +21,8 @@ use Rattle.records.specs.Soundness.{all_ranged, IsStore}
 use Rattle.store.specs.Inserting.{inserted_all}
 use Rattle.store.specs.Widening.{widened_by_all}
 use Rattle.store.specs.Stepping.{placed_in, lives_on, moves, replaced, moved_records}
-use Rattle.store.specs.declared.step.Step.{Step}
+use Rattle.store.specs.Needs.{IsStep}
+use Rattle.store.specs.declared.stepping.Step.{Step}
 use Rattle.records.specs.declared.Record.{Record}
 use Rattle.records.proofs.RecordsLaws.{now_of-store, records_of-store, store_of_lem}
 use Rattle.store.proofs.SteppingLaws.{moved_few, moved_ranged, moved_sorted}
@@ -30,7 +31,7 @@ use Rattle.records.proofs.SoundnessLaws as Sound
 use Rattle.records.proofs.OrderKeysLaws.{right_placed}
 use Rattle.records.specs.Words.{Words, words, time_in, records_in}
 use Rattle.words.specs.Words.{table_moved, moved_on}
-use Rattle.words.specs.Needs.{CanStep, Moved, CanChange}
+use Rattle.words.specs.Needs.{CanStep, CanMove, Moved, CanChange}
 
 nothing_new : (c : ℕ) (table : List ℤ) (ps : List ℕ) → ((p : ℕ) → Memᴰ p ps → p ≤ c) → with_later_empty table c ps ≡ table
 unfolding with_later_empty
@@ -100,10 +101,10 @@ module _ (w : Words) (time : ℤ) (can : CanStep w time) where
   sorted : is_sorted (moved_records now time records) ≡ true
   sorted = moved_sorted now time records is_store.sorted is_sound.store.distinct
 
-  pub can_change : CanChange w
-  can_change = record { is_store = is_store; whole_table = is_sound.table_long }
-
   module _ (step : Step) (from-now : step.now ≡ now) (to-time : step.time ≡ time) where
+    pub can_move : IsStep step → CanMove w step
+    can_move i = record { is_store = is_store; whole_table = is_sound.table_long; is_step = i }
+
     -- the records are those of a store, and the time is set last
     module _ (s' table' : List ℤ) (m : Moved w.store w.table step s' table') where
       store_then : s' ≡ store_of now (moved_records now time records)

@@ -105,6 +105,9 @@ module _ (id : ℤ) (fits : mag id < 2 ^ hbits w32) where
   taken_out_lem s t s' e =
       ap (λ (x : List ℤ). words x t) (e ∙ ap (λ (z : ℤ). store_of (now_of s) (removed z (records_of s))) (held w32 id fits))
 
+  pub taken_as : (w w' : Words) → w' ≡ taken_out (back w32 id) w → w' ≡ taken_out id w
+  taken_as w w' e = e ∙ ap (λ (z : ℤ). taken_out z w) (held w32 id fits)
+
 -- ---- the words stay those of a store
 
 module _ (w : Words) (can : CanChange w) where

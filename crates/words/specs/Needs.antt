@@ -11,8 +11,9 @@ use Rattle.records.specs.Order.{has_id}
 use Rattle.records.specs.Soundness.{IsStore}
 use Rattle.records.specs.Words.{Words, time_in, records_in, are_sound}
 use Rattle.store.specs.Stepping.{moved_records}
+use Rattle.store.specs.Needs.{IsStep}
 use Rattle.retiring.specs.Retiring.{kept}
-use Rattle.store.specs.declared.step.Step.{Step}
+use Rattle.store.specs.declared.stepping.Step.{Step}
 use Rattle.words.specs.Words.{table_moved}
 
 -- the lengths of document 01
@@ -31,12 +32,17 @@ pub record CanRetire (w : Words) (time : ℤ) (left : ℕ) : Type 0 where
   pub can_step : CanStep w time
   pub left_is : left ≡ length (kept (stays_at time) (records_in w))
 
--- the words after the clock moved on to a time of a later phase: the time itself is set last
+-- words over which the clock moves on to a time of a later phase, and what they are then: the time itself is set last
+pub record CanMove (w : Words) (step : Step) : Type 0 where
+  pub is_store : IsStore w.store
+  pub whole_table : length w.table ≡ table_words
+  pub is_step : IsStep step
+
 pub record Moved (s table : List ℤ) (step : Step) (s' table' : List ℤ) : Type 0 where
   pub store_is : s' ≡ store_of (now_of s) (moved_records step.now step.time (records_of s))
   pub table_is : table' ≡ table_moved step.now step.time (records_of s) table
 
--- words that a change can be made to, the clock's moving on too: those after a step are
+-- words that a change can be made to: those after a step are
 pub record CanChange (w : Words) : Type 0 where
   pub is_store : IsStore w.store
   pub whole_table : length w.table ≡ table_words

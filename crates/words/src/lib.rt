@@ -7,11 +7,11 @@
 ghost use Rattle.std.specs.Prelude.{◌≡◌};
 ghost use Rattle.records.specs.Words.{words};
 ghost use Rattle.words.specs.Words.{opened, moved_on, stepped, placed, taken_out};
-ghost use Rattle.words.specs.Needs.{RightLengths, CanStep, CanRetire, Moved, CanChange, CanPlace, CanReplace};
+ghost use Rattle.words.specs.Needs.{RightLengths, CanStep, CanRetire, CanMove, Moved, CanChange, CanPlace, CanReplace};
 
 use grid::Report;
 use records::order::phase_at;
-use store::step::Step;
+use store::stepping::Step;
 
 // That time, no float held, every row empty, whatever the words were.
 pub fn open(store: &mut [i32], table: &mut [i16], t: i32)
@@ -24,7 +24,7 @@ pub fn open(store: &mut [i32], table: &mut [i16], t: i32)
 
 // The clock moves on to a time of a later phase: newly live phases emptied, then the floats of dead phases placed in the current one.
 fn step_phase(store: &mut [i32], table: &mut [i16], s: Step)
-    requires { CanChange (words store.old table.old) }
+    requires { CanMove (words store.old table.old) s }
     ensures { Moved store.old table.old s store.new table.new }
 {
     rows::empty_newly_live(table, s.from, s.to);

@@ -6,7 +6,7 @@ use Rattle.grid.specs.Reports.{is_time}
 use Rattle.rows.specs.Phases.{phase_of}
 use Rattle.records.specs.Words.{words}
 use Rattle.records.proofs.RecordsLaws.{store-words_of}
-use Rattle.words.proofs.WordsMovedLaws.{is_store, time_now, same_step, can_change, moved_store, later_step}
+use Rattle.words.proofs.WordsMovedLaws.{is_store, time_now, same_step, can_move, moved_store, later_step}
 use Rattle.words.proofs.move_on.Goals as goal
 
 pub now_of-requires : goal.now_of-requires
@@ -25,12 +25,15 @@ pub returns-then-s : goal.returns-then-s
 returns-then-s c =
     let from = held w64 c.now_of.result c.now_of.type_inv ∙ c.now_of.ensures.value in
     let to = held w64 c.from.result c.from.type_inv ∙ (c.from.ensures ∙ to_z-of_z c.ranges.t) in
-    let x = c.between-s.result.from_is ∙ ap phase_of (c.between-s.ensures.0 ∙ from) in
-    let y = c.between-s.result.to_is ∙ ap phase_of (c.between-s.ensures.1 ∙ to) in
+    let x = c.between-s.ensures.2.from_is ∙ ap phase_of (c.between-s.ensures.0 ∙ from) in
+    let y = c.between-s.ensures.2.to_is ∙ ap phase_of (c.between-s.ensures.1 ∙ to) in
     same_step (words c.args.store.now c.args.table.now) c.args.t c.requires (omega (arith, c.if-s.true, x, y)) c.set_now.new.store (simp (to_z-of_z c.ranges.t) at c.set_now.ensures)
 
 pub step_phase-requires : goal.step_phase-requires
-step_phase-requires c = can_change (words c.args.store.now c.args.table.now) c.args.t c.requires
+step_phase-requires c =
+    let from = held w64 c.now_of.result c.now_of.type_inv ∙ c.now_of.ensures.value in
+    let to = held w64 c.from.result c.from.type_inv ∙ (c.from.ensures ∙ to_z-of_z c.ranges.t) in
+    can_move (words c.args.store.now c.args.table.now) c.args.t c.requires c.between-s.result (c.between-s.ensures.0 ∙ from) (c.between-s.ensures.1 ∙ to) c.between-s.ensures.2
 
 pub set_now-requires-2 : goal.set_now-requires-2
 set_now-requires-2 c =

@@ -11,14 +11,14 @@ use Rattle.words.proofs.step_phase.Goals as goal
 
 pub move_records-requires : goal.move_records-requires
 move_records-requires c =
-    record { store = c.requires.is_store; table_long = c.empty_newly_live.auto.table ∙ c.requires.whole_table }
+    record { store = c.requires.is_store; table_long = c.empty_newly_live.auto.table ∙ c.requires.whole_table; is_step = c.requires.is_step }
 
 pub returns : goal.returns
 unfolding table_moved
 returns c =
     let s = c.args.s in
     let anew = replaced (phase_of s.time) (moves s.now s.time) (records_of c.args.store.now) in
-    let emptied = ap₂ (with_newly_live_empty c.args.table.now) s.from_is s.to_is in
+    let emptied = ap₂ (with_newly_live_empty c.args.table.now) c.requires.is_step.from_is c.requires.is_step.to_is in
     record {
       store_is = c.move_records.ensures.store_after;
       table_is = c.move_records.ensures.table_after ∙ ap (λ (table : List ℤ). widened_by_all table anew) (c.empty_newly_live.ensures ∙ emptied);

@@ -4,4 +4,4 @@ use Rattle.choosing.proofs.BoundsLaws.{phase_bounds_are}
 use Rattle.choosing.proofs.bounds.phase_bounds.Goals as goal
 
 pub returns : goal.returns
-returns c = let rows = c.args.rows.now in c.slot_bounds.ensures ∙ phase_bounds_are rows.table.now rows.slot
+returns c = c.slot_bounds.ensures ∙ phase_bounds_are c.args.table.now c.args.slot

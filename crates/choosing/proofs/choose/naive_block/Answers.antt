@@ -9,5 +9,5 @@ pub expanded_block-requires : goal.expanded_block-requires
 expanded_block-requires c =
     record {
       ask = c.requires.ask;
-      valid = call_valid (rows_in c.args.rows.now) c.requires.valid c.phase_bounds.result whole_grid c.phase_bounds.ensures (omega arith);
+      valid = call_valid (rows_in c.args.rows.now) c.requires.valid c.phase_bounds_in.result whole_grid c.phase_bounds_in.ensures (omega arith);
     }

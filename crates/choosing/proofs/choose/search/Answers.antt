@@ -16,8 +16,8 @@ loop-rounds-init c =
       onward = ap (λ (w : Row). iterated most_rounds (rows_in c.args.rows.now) (aim_of c.args.view) w c.args.naive 0) c.empty-before.ensures;
     }
 
-pub block_bounds-bounds-requires : goal.block_bounds-bounds-requires
-block_bounds-bounds-requires c = c.loop-rounds.invariant.block_on
+pub block_bounds_in-bounds-requires : goal.block_bounds_in-bounds-requires
+block_bounds_in-bounds-requires c = c.loop-rounds.invariant.block_on
 
 pub returns-then-is_empty : goal.returns-then-is_empty
 returns-then-is_empty c = let t = sym c.is_empty.ensures ∙ c.if-is_empty.true in search (rules, search_missing)

@@ -1,14 +1,11 @@
--- The cells with nonempty rows are listed, some are kept, and those that meet are marked.
-use Rattle.std.proofs.Common.{rules}
-use Rattle.choosing.proofs.MarkLaws.{no_marks-length}
-use Rattle.choosing.proofs.ReachedLaws.{bits_none, listed_places, kept_places, kept_marked}
+-- The rows that are made are those of the slot.
+use Rattle.choosing.proofs.ChooseLaws.{valid_in}
 use Rattle.choosing.proofs.reached.mark_reached.Goals as goal
 
-pub keep_columns-m-requires : goal.keep_columns-m-requires
-keep_columns-m-requires c = search (rules, listed_places)
-
-pub mark_listed-requires : goal.mark_listed-requires
-mark_listed-requires c = search (rules, no_marks-length, bits_none, listed_places, kept_places)
-
-pub returns : goal.returns
-returns c = search (rules, kept_marked)
+pub mark_reached_in-requires : goal.mark_reached_in-requires
+mark_reached_in-requires c =
+    record {
+      valid = valid_in c.new.result c.new.ensures.same_table c.new.ensures.same_slot c.requires.of_slot;
+      ask = c.requires.ask;
+      none_set = c.requires.none_set;
+    }

@@ -17,8 +17,8 @@ judged : (time : ℤ) (r : Record) (p q : ℕ) → p ≡ phase_of_key (phase_of 
 unfolding key_is_right
 judged time r p q e f = ap₂ (λ (m n : ℕ). leb n m && eq_z r.key (key_in m r.report)) e f
 
-pub key_in-requires : goal.key_in-requires
-key_in-requires c =
+pub key_by-requires : goal.key_by-requires
+key_by-requires c =
     let t : FitsSigned w32 c.args.time = search rules in
     let p : c.phase_at.result ≡ phase_of c.args.time = simp to_z-of_z at c.phase_at.ensures in
     let key = to_z w32 (of_z w32 c.args.r.key) in
@@ -35,7 +35,7 @@ returns-then-phase_at-p c =
     let s : FitsSigned w32 c.args.r.report.t = search rules in
     let p = c.phase_of_key-p.ensures ∙ ap₂ phase_of_key (simp to_z-of_z at c.phase_at.ensures) (to_z-of_z w32 c.args.r.key k) in
     let j = judged c.args.time c.args.r c.phase_of_key-p.result c.phase_at-2.result p (simp to_z-of_z at c.phase_at-2.ensures) in
-    bits_equal {b = c.key_in.result} k (search rules) ∙ ap (eq_z c.args.r.key) c.key_in.ensures ∙ (simp (le-leb c.phase_at-2.result c.phase_of_key-p.result c.if-phase_at-p.true) at j)
+    bits_equal {b = c.key_by.result} k (search rules) ∙ ap (eq_z c.args.r.key) c.key_by.ensures ∙ (simp (le-leb c.phase_at-2.result c.phase_of_key-p.result c.if-phase_at-p.true) at j)
 
 pub returns-else-phase_at-p : goal.returns-else-phase_at-p
 returns-else-phase_at-p c =

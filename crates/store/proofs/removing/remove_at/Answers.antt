@@ -9,10 +9,10 @@ pub set_held-requires : goal.set_held-requires
 set_held-requires c =
     let n = c.held_of-n.result in
     let room = words_room _ c.requires.store in
-    let long = same_len_mid {X = ℤ} (7 * n) (7 * n + 7 - 7 * n) c.copy_within.new.self c.fill.new.self c.fill.auto.self in
-    record { count_word = omega (arith, long, room, c.copy_within.ensures.len); few = omega (arith, room) }
+    let long = same_len_mid {X = ℤ} (7 * n) (7 * n + 7 - 7 * n) c.move_down.new.words c.fill.new.self c.fill.auto.self in
+    record { count_word = omega (arith, long, room, c.move_down.ensures.len); few = omega (arith, room) }
 
 pub returns : goal.returns
 returns c =
-    remove_at_done _ _ _ c.requires.store c.held_of-n.ensures c.requires.within _ _ _ c.copy_within.ensures.after c.copy_within.ensures.len
+    remove_at_done _ _ _ c.requires.store c.held_of-n.ensures c.requires.within _ _ _ c.move_down.ensures.after c.move_down.ensures.len
     (c.fill.ensures.after (search rules)) c.set_held.ensures

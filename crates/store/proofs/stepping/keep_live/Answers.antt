@@ -14,7 +14,7 @@ pub place_by-requires : goal.place_by-requires
 place_by-requires c =
     let is-ranged = now_ranged _ _ _ _ _ _ c.loop-i.invariant.keeping (omega arith) _ c.read_from-r.ensures in
     let g = ranged_parts c.read_from-r.result is-ranged in
-    record { phase = to_small c.args.step; in_range_lem = g.report; is_time_lem = g.time }
+    record { phase = to_small c.args.step c.requires.is_step; in_range_lem = g.report; is_time_lem = g.time }
 
 pub loop-i-preserved : goal.loop-i-preserved
 loop-i-preserved c =
@@ -24,7 +24,7 @@ loop-i-preserved c =
           rw (w.store-is, w.dead-is, w.k-is) (pass_live _ _ _ _ _ _ _ _ _ c.loop-i.invariant (omega arith) _ c.read_from-r.ensures stay (ap not stay) _ w.write_record.ensures)
       | else-lives_on w ↦
           let leaves = sym c.lives_on.ensures ∙ w.if-lives_on.false in
-          let placed = w.place_by.ensures ∙ ap (λ (q : ℕ). placed_in q c.read_from-r.result.report) c.args.step.to_is in
+          let placed = w.place_by.ensures ∙ ap (λ (q : ℕ). placed_in q c.read_from-r.result.report) c.requires.is_step.to_is in
           let more = pass_dead _ _ _ _ _ _ _ _ _ c.loop-i.invariant (omega arith) _ c.read_from-r.ensures leaves (ap not leaves) _ placed _ w.write_record-else-lives_on.ensures in
           rw (w.store-is, w.dead-is, w.k-is) more
     ]
