@@ -2,6 +2,9 @@
 -- Assumes nothing.
 use Rattle.std.specs.Prelude.{◌≡◌, true, List, ℕ, ◌+◌, ◌-◌, ◌*◌, ◌≤◌, ◌<◌, ℤ}
 use Rattle.grid.specs.Units.{side}
+use Rattle.grid.specs.Places.{OnGrid}
+use Rattle.grid.specs.Curve.{IsCurve}
+use Rattle.grid.specs.declared.Cell.{Cell}
 use Rattle.rows.specs.Table.{valid_table}
 use Rattle.rows.specs.Needs.{HasSlot}
 use Rattle.rows.specs.declared.Row.{Row}
@@ -19,6 +22,12 @@ pub record IsSlot (table : List ℤ) (slot : ℕ) : Type 0 where
 pub record BlockOnGrid (b : Block) : Type 0 where
   pub columns_on : b.last_column < side
   pub rows_on : b.last_row < side
+
+-- to find the row of one cell
+pub record CanReadCell (numbers : List ℕ) (table : List ℤ) (slot : ℕ) (c : Cell) : Type 0 where
+  pub curve : IsCurve numbers
+  pub has_slot : HasSlot table slot
+  pub on_grid : OnGrid c
 
 -- to find the bounds of the rows of a block's first k cells
 pub record CanBoundAfter (k : ℕ) (b : Block) : Type 0 where

@@ -6,13 +6,21 @@ ghost use Rattle.rows.specs.Needs.{HasSlot};
 ghost use Rattle.methods.specs.Methods.{bounds_in, phase_bounds};
 ghost use Rattle.methods.specs.BoundsInOnePass.{bounds_after};
 ghost use Rattle.methods.specs.Slots.{rows_of_slot};
-ghost use Rattle.choosing.specs.Bounds.{cells_before, BlockOnGrid, CanBound, CanBoundAfter, CanBoundAfterInSlot, CanGoOn};
+ghost use Rattle.choosing.specs.Bounds.{cells_before, BlockOnGrid, CanReadCell, CanBound, CanBoundAfter, CanBoundAfterInSlot, CanGoOn};
 ghost use Rattle.choosing.specs.Slot.{rows_in};
 
 use crate::slot::SlotRows;
 use grid::Cell;
 use methods::Block;
 use rows::Row;
+
+// The row of a cell, over a slot of a lent table and the grid's table of curve numbers: what `SlotRows` finds of those that it holds.
+pub fn row_of_cell(numbers: &[u16; grid::CELLS], table: &[i16], slot: usize, c: Cell) -> Row
+    requires { CanReadCell numbers.now table.now slot c }
+    ensures { result ≡ rows_of_slot table.now slot c }
+{
+    Row::read(table, slot, grid::number_in(numbers, c))
+}
 
 // How many columns, or rows, there are from the first to the last; none where the last comes before the first.
 fn count(first: usize, last: usize) -> usize

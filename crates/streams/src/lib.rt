@@ -1,5 +1,6 @@
 // Standard input read and standard output written. A call that was interrupted, or that would have to wait, is made again: it is neither the end of
-// the input nor a failure. A failure is told in one line on standard error, which begins with the program's name and ends with the system's words.
+// the input nor a failure. A failure is told in one line on standard error, which begins with the program's name, or with a line that the caller gives, and ends
+// with the system's words.
 #![tactic(auto)]
 
 ghost use Rattle.std.specs.Prelude.{◌≡◌, ◌≤◌, length, IfOk};
@@ -61,8 +62,8 @@ fn text_of(error: &Error, text: &mut [u8; TEXT_BYTES]) -> usize
 impl Failure {
     fn text(self) -> &'static [u8] {
         match self {
-            Failure::Read => b": cannot read standard input: ",
-            Failure::Write => b": cannot write standard output: ",
+            Failure::Read => b": cannot read standard input",
+            Failure::Write => b": cannot write standard output",
         }
     }
 }
@@ -80,13 +81,14 @@ impl<'a> Streams<'a> {
         }
     }
 
-    // A failure told on standard error. Where that cannot be written either, nobody can be told.
-    fn tell(self, failure: Failure, error: &Error) -> Failure {
+    // A failure told on standard error: who and what, then the system's words. Where that cannot be written either, nobody can be told.
+    fn tell(self, failure: Failure, who: &[u8], what: &[u8], error: &Error) -> Failure {
         let mut text = [0u8; TEXT_BYTES];
         let n = text_of(error, &mut text);
         let words = words_of(&text[..n]);
-        let _program = self.errors.write_all(self.program).is_ok();
-        let _failure = self.errors.write_all(failure.text()).is_ok();
+        let _who = self.errors.write_all(who).is_ok();
+        let _what = self.errors.write_all(what).is_ok();
+        let _colon = self.errors.write_all(b": ").is_ok();
         let _words = self.errors.write_all(&text[..words]).is_ok();
         let _end = self.errors.write_all(b"\n").is_ok();
         failure
@@ -94,7 +96,7 @@ impl<'a> Streams<'a> {
 
     // How many bytes came of standard input, which stand at the start of the chunk: none at the end of the input. A proved loop has to end: this many
     // calls that give nothing take longer than any machine lasts.
-    pub fn read_chunk(self, chunk: &mut [u8]) -> Result<usize, Failure>
+    fn read_told(self, chunk: &mut [u8], who: &[u8], what: &[u8]) -> Result<usize, Failure>
         ensures { Moved (length chunk.new) result }
     {
         let mut input = self.input;
@@ -103,7 +105,7 @@ impl<'a> Streams<'a> {
                 Ok(got) => return Ok(got),
                 Err(error) => {
                     if !tries_again(&error) {
-                        return Err(self.tell(Failure::Read, &error));
+                        return Err(self.tell(Failure::Read, who, what, &error));
                     }
                 }
             }
@@ -112,16 +114,19 @@ impl<'a> Streams<'a> {
     }
 
     // How many bytes standard output took of these. To take none is a failure.
-    fn write_some(self, out: &[u8]) -> Result<usize, Failure>
+    fn write_some(self, out: &[u8], who: &[u8], what: &[u8]) -> Result<usize, Failure>
         ensures { TakesSome (length out.now) result }
     {
         for _ in 0..u64::MAX {
             match self.output.write_some(out) {
-                Ok(0) => return Err(self.tell(Failure::Write, &Error::from(ErrorKind::WriteZero))),
+                Ok(0) => {
+                    let error = Error::from(ErrorKind::WriteZero);
+                    return Err(self.tell(Failure::Write, who, what, &error));
+                }
                 Ok(put) => return Ok(put),
                 Err(error) => {
                     if !tries_again(&error) {
-                        return Err(self.tell(Failure::Write, &error));
+                        return Err(self.tell(Failure::Write, who, what, &error));
                     }
                 }
             }
@@ -130,13 +135,37 @@ impl<'a> Streams<'a> {
     }
 
     // Writes all of it. A write may take a part: the next goes on behind it.
-    pub fn write_out(self, out: &[u8]) -> Result<(), Failure> {
+    fn write_told(self, out: &[u8], who: &[u8], what: &[u8]) -> Result<(), Failure> {
         let mut rest = out;
         // How much a write takes is known only once it is made, so no `for` goes over it.
         while !rest.is_empty() {
-            let put = self.write_some(rest)?;
+            let put = self.write_some(rest, who, what)?;
             rest = &rest[put..];
         }
         Ok(())
     }
+
+    // Reads once. A failure is told under the program's name.
+    pub fn read_chunk(self, chunk: &mut [u8]) -> Result<usize, Failure>
+        ensures { Moved (length chunk.new) result }
+    {
+        self.read_told(chunk, self.program, Failure::Read.text())
+    }
+
+    // Writes all of it. A failure is told under the program's name.
+    pub fn write_out(self, out: &[u8]) -> Result<(), Failure> {
+        self.write_told(out, self.program, Failure::Write.text())
+    }
+}
+
+// Reads once, for a caller that gives the line of a failure.
+pub fn read_chunk(streams: Streams, chunk: &mut [u8], failure: &[u8]) -> Result<usize, Failure>
+    ensures { Moved (length chunk.new) result }
+{
+    streams.read_told(chunk, failure, b"")
+}
+
+// Writes all of it, for a caller that gives the line of a failure.
+pub fn write_out(streams: Streams, out: &[u8], failure: &[u8]) -> Result<(), Failure> {
+    streams.write_told(out, failure, b"")
 }
